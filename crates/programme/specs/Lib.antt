@@ -1,0 +1,4 @@
+pub mod Bounds
+pub mod Formulas
+pub mod Meaning
+pub mod Programmes
