@@ -7,7 +7,7 @@ use Rattle.programme.specs.declared.terms.Terms.{Terms}
 use Rattle.programme.specs.declared.figures.Figures.{Figures}
 use Rattle.programme.specs.declared.figures.Fold.{Fold}
 use Rattle.programme.specs.declared.figures.Fold.the-variants.{Sum, Peak}
-use Rattle.programme.specs.Bounds.{Lawful-terms, Settleable}
+use Rattle.programme.specs.Bounds.{lawful-terms, settleable}
 
 -- A programme is its fixed figures, its event function and its month function, and nothing else.
 -- The event function takes terms, price, lateness, baseline and event load, and answers credit, surcharge and 1 for a missed event, else 0.
@@ -43,8 +43,8 @@ pub record Amounts (a : ℕ × ℕ × ℕ) : Type 0 where
 -- What every programme shows of its meaning.
 pub record Lawful (m : Meaning) : Type 0 where
   pub figures : Lawful-figures (m .figures)
-  pub event : (t : Terms) (price : ℕ) (late : Bool) (baseline load : ℕ) → Settleable (m .figures) t price baseline load → Amounts (m .event t price late baseline load)
-  pub basic : (t : Terms) (events missed : ℕ) → Lawful-terms t → m .basic t events missed ≤ 1000000000000
+  pub event : (t : Terms) (price : ℕ) (late : Bool) (baseline load : ℕ) → settleable (m .figures) t price baseline load ≡ true → Amounts (m .event t price late baseline load)
+  pub basic : (t : Terms) (events missed : ℕ) → lawful-terms t ≡ true → m .basic t events missed ≤ 1000000000000
 
 -- One reading more: added, or the larger.
 abbrev pub joined : Fold → ℕ → ℕ → ℕ

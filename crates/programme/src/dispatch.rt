@@ -1,10 +1,10 @@
 // A programme by its letter.
 
 ghost use mathlib.Core.Path.{_≡_};
-ghost use Prim.Native.Nat.{ℕ};
+ghost use mathlib.Core.Bool.{true};
 ghost use Rattle.std.specs.Numbers.{Checked};
 ghost use Rattle.std.specs.Options.{Cases};
-ghost use Rattle.programme.specs.Bounds.{Lawful-terms, Settleable};
+ghost use Rattle.programme.specs.Bounds.{lawful-terms, settleable};
 ghost use Rattle.programme.specs.Programmes.{letter-of, meaning-of};
 ghost use Rattle.programme.specs.declared.codes.Code.{Code as Named};
 use crate::codes::Code;
@@ -60,7 +60,7 @@ impl Code {
         baseline: u64,
         event_load: u64,
     ) -> Option<(u64, u64, u64)>
-        ensures { λ r. ⌜ Checked r (Settleable (meaning-of self .figures) terms price baseline «event_load») (meaning-of self .event terms price late baseline «event_load») ⌝ }
+        ensures { λ r. ⌜ Checked r (settleable (meaning-of self .figures) terms price baseline «event_load» ≡ true) (meaning-of self .event terms price late baseline «event_load») ⌝ }
     {
         if !self.figures()
             .can_settle(terms, price, baseline, event_load) {
@@ -81,7 +81,7 @@ impl Code {
 
     // The basic credit of a month; nothing where the terms are out of range.
     pub fn basic(self, terms: Terms, events: u8, missed: u8) -> Option<u64>
-        ensures { λ r. ⌜ Checked r (Lawful-terms terms) (meaning-of self .basic terms events missed) ⌝ }
+        ensures { λ r. ⌜ Checked r (lawful-terms terms ≡ true) (meaning-of self .basic terms events missed) ⌝ }
     {
         if !terms.lawful() {
             return None;

@@ -1,9 +1,9 @@
 // The amounts of the three programmes.
 
 ghost use mathlib.Core.Path.{_≡_};
-ghost use mathlib.Core.Bool.{false};
+ghost use mathlib.Core.Bool.{false, true};
 ghost use Prim.Native.Nat.{ℕ, _+_, _-_, _*_, _<_, _≤_};
-ghost use Rattle.programme.specs.Bounds.{Lawful-terms};
+ghost use Rattle.programme.specs.Bounds.{lawful-terms};
 ghost use Rattle.programme.specs.Formulas.{economic-credit, economic-event, reliable-basic, reliable-credit, reliable-event, reliable-surcharge};
 ghost use Rattle.programme.specs.Formulas.{rate as rate-of, rounded as rounded-ratio, saving as saved, missed as misses};
 use crate::terms::Terms;
@@ -70,7 +70,7 @@ pub(crate) fn economic_event(
     baseline: u64,
     event_load: u64,
 ) -> (u64, u64, u64)
-    requires { ⌜ «lowest_kw» ≤ 200000 ⌝ ∗ ⌜ Lawful-terms terms ⌝ ∗ ⌜ price ≤ 1000 ⌝ ∗ ⌜ baseline ≤ 100000000000 ⌝ }
+    requires { ⌜ «lowest_kw» ≤ 200000 ⌝ ∗ ⌜ lawful-terms terms ≡ true ⌝ ∗ ⌜ price ≤ 1000 ⌝ ∗ ⌜ baseline ≤ 100000000000 ⌝ }
     ensures { λ r. ⌜ r ≡ economic-event «lowest_kw» terms price late baseline «event_load» ⌝ }
 {
     let saving = saving(baseline, event_load);
@@ -119,7 +119,7 @@ pub(crate) fn reliable_event(
     baseline: u64,
     event_load: u64,
 ) -> (u64, u64, u64)
-    requires { ⌜ Lawful-terms terms ⌝ ∗ ⌜ price ≤ 1000 ⌝ ∗ ⌜ baseline ≤ 100000000000 ⌝ }
+    requires { ⌜ lawful-terms terms ≡ true ⌝ ∗ ⌜ price ≤ 1000 ⌝ ∗ ⌜ baseline ≤ 100000000000 ⌝ }
     ensures { λ r. ⌜ r ≡ reliable-event terms price false baseline «event_load» ⌝ }
 {
     let saving = saving(baseline, event_load);
@@ -131,7 +131,7 @@ pub(crate) fn reliable_event(
 
 // The month function of reliable bidding.
 pub(crate) fn reliable_basic(terms: Terms, events: u8, missed: u8) -> u64
-    requires { ⌜ Lawful-terms terms ⌝ }
+    requires { ⌜ lawful-terms terms ≡ true ⌝ }
     ensures { λ r. ⌜ r ≡ reliable-basic terms events missed ⌝ }
 {
     let reduction = terms.reduction_kw as u64;

@@ -26,4 +26,5 @@ pub use programmes::JointBiddingProgramme;
 pub use programmes::Programme;
 pub use programmes::Reliable;
 pub use programmes::ReliableProgramme;
+pub use ranges::lawful_price;
 pub use terms::Terms;

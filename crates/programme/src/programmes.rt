@@ -3,7 +3,7 @@
 ghost use mathlib.Core.Path.{_≡_};
 ghost use mathlib.Core.Bool.{Bool, true, false};
 ghost use Prim.Native.Nat.{ℕ, _≤_};
-ghost use Rattle.programme.specs.Bounds.{Lawful-terms, Settleable};
+ghost use Rattle.programme.specs.Bounds.{lawful-terms, settleable};
 ghost use Rattle.programme.specs.Meaning.{Lawful, Meaning};
 ghost use Rattle.programme.specs.Programmes.{economic, joint-bidding, reliable};
 use crate::figures::Figures;
@@ -58,12 +58,12 @@ pub trait Programme {
         baseline: u64,
         event_load: u64,
     ) -> (u64, u64, u64)
-        requires { ⌜ Settleable (meaning .figures) terms price baseline «event_load» ⌝ }
+        requires { ⌜ settleable (meaning .figures) terms price baseline «event_load» ≡ true ⌝ }
         ensures { λ r. ⌜ r ≡ meaning .event terms price late baseline «event_load» ⌝ };
 
     // The basic credit of a month with so many events and so many missed.
     fn basic(terms: Terms, events: u8, missed: u8) -> u64
-        requires { ⌜ Lawful-terms terms ⌝ }
+        requires { ⌜ lawful-terms terms ≡ true ⌝ }
         ensures { λ r. ⌜ r ≡ meaning .basic terms events missed ⌝ };
 }
 
