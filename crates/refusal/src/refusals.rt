@@ -1,6 +1,6 @@
 // The refusals, in the order of their numbers.
 
-#[derive(Clone, Copy, PartialEq, Eq, Debug)]
+#[derive(Clone, Copy)]
 pub enum Refusal {
     // the book's first day is above 10,830
     FirstDayTooLate,

@@ -1,6 +1,10 @@
 // What a clerk reads: the number, then a sentence, then the places.
 
 use crate::refusals::Refusal;
+use calendar::Day;
+use calendar::Quarter;
+use calendar::days::DayDebug;
+use calendar::quarters::QuarterDebug;
 use std::fmt;
 
 // What is refused, in words; the places follow.
@@ -47,5 +51,67 @@ fn sentence(refusal: Refusal) -> &'static str {
         Refusal::ReadingsLacking =>
             "the record was finished before all its readings came, and is given up",
         Refusal::GroupMisfit => "a group is an account 0 to 7 over two or more other accounts",
+    }
+}
+
+// A day as a date, or as a number where the calendar has no such day.
+#[derive(Clone, Copy)]
+struct Dated(u16);
+
+impl fmt::Display for Dated as DatedDisplay {
+    fn fmt<W: fmt::Write>(&self, f: &mut fmt::Formatter<W>) -> fmt::Result {
+        match Day::new(self.0) {
+            Some(day) => write!(f, "{day:?}"),
+            None => {
+                let number = self.0;
+                write!(f, "day {number}")
+            }
+        }
+    }
+}
+
+// A quarter as a time, or as a number where the day has no such quarter.
+#[derive(Clone, Copy)]
+struct Timed(u8);
+
+impl fmt::Display for Timed as TimedDisplay {
+    fn fmt<W: fmt::Write>(&self, f: &mut fmt::Formatter<W>) -> fmt::Result {
+        match Quarter::new(self.0) {
+            Some(quarter) => write!(f, "{quarter:?}"),
+            None => {
+                let number = self.0;
+                write!(f, "quarter {number}")
+            }
+        }
+    }
+}
+
+// The places that a refusal names.
+fn places<W: fmt::Write>(refusal: Refusal, f: &mut fmt::Formatter<W>) -> fmt::Result {
+    match refusal {
+        Refusal::KindLacking { day } => write!(f, " {}", Dated(day)),
+        Refusal::TooFewBaselineDays { event_day } => write!(f, " {}", Dated(event_day)),
+        Refusal::ReadingAbsent { day, quarter } => write!(
+            f,
+            " {} at {}",
+            Dated(day),
+            Timed(quarter)
+        ),
+        Refusal::HeadCut { offset }
+        | Refusal::RecordOutOfRange { offset }
+        | Refusal::RecordOutOfOrder { offset }
+        | Refusal::EmptyMap { offset }
+        | Refusal::ReadingsCut { offset }
+        | Refusal::ReadingTooHigh { offset } => write!(f, " which begins at byte {offset}"),
+        _ => Ok(()),
+    }
+}
+
+pub impl fmt::Display for Refusal as RefusalDisplay {
+    fn fmt<W: fmt::Write>(&self, f: &mut fmt::Formatter<W>) -> fmt::Result {
+        let number = self.number();
+        let words = sentence(*self);
+        write!(f, "refusal {number}: {words}")?;
+        places(*self, f)
     }
 }
