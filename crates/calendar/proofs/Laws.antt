@@ -7,7 +7,7 @@ use native.Mathlib.Numerals.{add-one}
 use native.Mathlib.Omega.{arith}
 use lib.Dec.{eqb, leb}
 use Rattle.std.proofs.shelf.Ways.{leb-tells, eqb-tells}
-use Rattle.calendar.specs.Months.{leap, has-thirty, year-of, calendar-month, month-length, first-day, month-of}
+use Rattle.calendar.specs.Months.{leap, has-thirty, year-of, calendar-month, month-length, first-day, month-of, day-of-month}
 
 between : (b : Bool) (x y : ℕ) → (28 ≤ x) × (x ≤ 31) → (28 ≤ y) × (y ≤ 31) → (28 ≤ cond b x y) × (cond b x y ≤ 31)
 between true x y p q = p
@@ -63,14 +63,13 @@ only-month m d begun ahead =
     let day = in-month d in
     omega (arith, not-after m (month-of d) d begun (day .1), not-after (month-of d) m d (day .0) ahead)
 
-pub first-day-359 : first-day 359 ≡ 10927
-unfolding first-day
-first-day-359 = refl
-
 -- month 359 is the last, and day 10957 its last day
 pub first-day-360 : first-day 360 ≡ 10958
 unfolding first-day
 first-day-360 = refl
+
+pub month-inside : (m : ℕ) → m ≤ 359 → first-day m + month-length m ≤ 10958
+month-inside m h = omega (arith, first-day-step m, first-day-rises (m + 1) 360 (omega arith), first-day-360)
 
 pub month-of-most : (d : ℕ) → d ≤ 10957 → month-of d ≤ 359
 month-of-most d h = not-after (month-of d) 359 d (in-month d .0) (omega (arith, first-day-360))
@@ -93,3 +92,7 @@ placed m d small e =
       ahead = ahead;
       inside = omega (arith, first-day-step m);
     }
+
+-- the day's place in its month
+pub day-of-month-range : (d : ℕ) → (1 ≤ day-of-month d) × (day-of-month d ≤ month-length (month-of d))
+day-of-month-range d = (omega arith, omega (arith, in-month d .0, in-month d .1, first-day-step (month-of d)))

@@ -1,2 +1,4 @@
 pub mod Laws
 pub mod Table
+pub mod Reading
+pub mod Facts

@@ -1,3 +1,5 @@
 pub mod Months
 pub mod Weekdays
 pub mod Moments
+pub mod Texts
+pub mod Worked

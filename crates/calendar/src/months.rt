@@ -5,9 +5,16 @@ ghost use Prim.Native.Nat.{_+_, _<_, _≤_};
 ghost use lib.Dec.{leb};
 ghost use lib.ListN.{length};
 ghost use Rattle.calendar.specs.Months.{leap, length-in, year-of, calendar-month, month-length, first-day, month-of, ruled};
+ghost use Rattle.calendar.specs.Texts.{Reads, month-text};
 ghost use Rattle.std.specs.Options.{mapped};
+ghost use Rattle.std.specs.Text.{Ascii};
 ghost use Rattle.std.specs.declared.option.Option.the-variants.{None, Some};
 use super::days::Day;
+use super::digits::ascii;
+use super::digits::read_four;
+use super::digits::read_two;
+use super::digits::two_digits;
+use std::fmt;
 
 // The first day of each month.
 const FIRST_DAYS: [u16; 360] = [
@@ -391,6 +398,7 @@ fn first_day_of(month: u16) -> u16
     requires { ⌜ month ≤ 359 ⌝ }
     ensures value { λ r. ⌜ r ≡ first-day month ⌝ }
     ensures within { λ r. ⌜ r ≤ 10957 ⌝ }
+    ensures inside { λ r. ⌜ r + month-length month ≤ 10958 ⌝ }
 {
     first_days()[month as usize]
 }
@@ -461,10 +469,48 @@ impl Month {
     }
 
     pub fn first_day(self) -> Day
-        ensures { λ r. ⌜ r .number ≡ first-day (self .number) ⌝ }
+        ensures value { λ r. ⌜ r .number ≡ first-day (self .number) ⌝ }
+        ensures inside { λ r. ⌜ r .number + month-length (self .number) ≤ 10958 ⌝ }
     {
         Day {
             number: first_day_of(self.number),
         }
+    }
+
+    // The month as 2026-02.
+    pub fn text(self) -> [u8; 7]
+        ensures value { λ r. ⌜ r ≡ month-text (self .number) ⌝ }
+        ensures ascii { λ r. ⌜ Ascii r ⌝ }
+    {
+        let year = self.year();
+        let [a, b] = two_digits((year / 100) as u8);
+        let [c, d] = two_digits((year % 100) as u8);
+        let [e, f] = two_digits(self.calendar_month());
+        [a, b, c, d, b'-', e, f]
+    }
+
+    // The month that has this text, and no other text is read.
+    pub fn read(text: &[u8]) -> Option<Month>
+        ensures { λ r. ⌜ Reads month-text 359 (now (text .entry)) (mapped (λ m. m .number) r) ⌝ }
+    {
+        let [a, b, c, d, b'-', e, f] = text else {
+            return None;
+        };
+        let year = read_four(*a, *b, *c, *d)?;
+        let month = read_two(*e, *f)?;
+        match (year, month) {
+            (2015..=2044, 1..=12) => Some(Month {
+                number: 12 * (year - 2015) + u16::from(month) - 1,
+            }),
+            _ => None,
+        }
+    }
+}
+
+pub impl fmt::Display for Month as MonthDisplay {
+    ghost shown = { λ m. Some (month-text (m .number)) };
+
+    fn fmt<W: fmt::Write>(&self, f: &mut fmt::Formatter<W>) -> fmt::Result {
+        f.pad(ascii(&self.text()))
     }
 }

@@ -3,8 +3,8 @@
 use crate::refusals::Refusal;
 use calendar::Day;
 use calendar::Quarter;
-use calendar::days::DayDebug;
-use calendar::quarters::QuarterDebug;
+use calendar::days::DayDisplay;
+use calendar::quarters::QuarterDisplay;
 use std::fmt;
 
 // What is refused, in words; the places follow.
@@ -61,7 +61,7 @@ struct Dated(u16);
 impl fmt::Display for Dated as DatedDisplay {
     fn fmt<W: fmt::Write>(&self, f: &mut fmt::Formatter<W>) -> fmt::Result {
         match Day::new(self.0) {
-            Some(day) => write!(f, "{day:?}"),
+            Some(day) => write!(f, "{day}"),
             None => {
                 let number = self.0;
                 write!(f, "day {number}")
@@ -77,7 +77,7 @@ struct Timed(u8);
 impl fmt::Display for Timed as TimedDisplay {
     fn fmt<W: fmt::Write>(&self, f: &mut fmt::Formatter<W>) -> fmt::Result {
         match Quarter::new(self.0) {
-            Some(quarter) => write!(f, "{quarter:?}"),
+            Some(quarter) => write!(f, "{quarter}"),
             None => {
                 let number = self.0;
                 write!(f, "quarter {number}")
