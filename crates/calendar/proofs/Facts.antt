@@ -1,12 +1,12 @@
 -- The worked figures: each is computed, the month of a day from the month's first day and the next one's.
-use mathlib.Core.Path.{_≡_, refl, sym, ap, _∙_}
+use mathlib.Core.Path.{_≡_, refl, sym, ap}
+use mathlib.Core.List.{_++_, _∷_}
 use Prim.Native.Nat.{ℕ, _+_, _-_}
 use native.Mathlib.Omega.{arith}
-use Rattle.calendar.specs.Months.{first-day, month-of, day-of-month}
+use Rattle.calendar.specs.Months.{first-day, month-of}
 use Rattle.calendar.specs.Texts.{month-text, two-digits}
 use Rattle.calendar.specs.Worked.{Calendar-facts}
-use mathlib.Core.List.{_++_, _∷_}
-use Rattle.calendar.proofs.Laws.{only-month, first-day-360}
+use Rattle.calendar.proofs.Laws.{only-month}
 
 last : month-of 10957 ≡ 359
 unfolding first-day

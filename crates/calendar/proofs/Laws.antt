@@ -1,11 +1,11 @@
 -- What follows from the rules of the months: they are 28 to 31 days long, begin one after another, and each day is in exactly one.
-use mathlib.Core.Path.{_≡_, refl, sym, ap, _∙_}
+use mathlib.Core.Path.{_≡_, refl, ap}
 use mathlib.Core.Bool.{Bool, true, false, cond}
 use mathlib.Core.Logic.{inl, inr}
 use Prim.Native.Nat.{ℕ, zero, suc, _+_, _<_, _≤_}
 use native.Mathlib.Numerals.{add-one}
 use native.Mathlib.Omega.{arith}
-use lib.Dec.{eqb, leb}
+use lib.Dec.{eqb}
 use Rattle.std.proofs.shelf.Ways.{leb-tells, eqb-tells}
 use Rattle.calendar.specs.Months.{leap, has-thirty, year-of, calendar-month, month-length, first-day, month-of, day-of-month}
 

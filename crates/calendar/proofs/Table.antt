@@ -1,6 +1,6 @@
 -- A table of first days: its rule is one test over the whole table, carried here to each entry.
 use mathlib.Core.Path.{_≡_, refl, sym, ap, _∙_}
-use mathlib.Core.Bool.{Bool, true, _&&_}
+use mathlib.Core.Bool.{true}
 use mathlib.Core.Logic.{inl, inr}
 use mathlib.Core.List.{List, [], _∷_}
 use Prim.Native.Nat.{ℕ, zero, suc, _+_, _-_, _<_, _≤_}
@@ -30,7 +30,7 @@ from (y ∷ ys) i x e t (suc k) h =
     ∙ ap first-day (suc-add i k ∙ sym (add-suc i k))
 
 pub entry : (table : List ℕ) → ruled table ≡ true → (k : ℕ) → k < length table → getD table k 0 ≡ first-day k
-unfolding first-day ruled
+unfolding first-day
 entry [] t k h = absurd (not-suc-le-zero h)
 entry (x ∷ later) t k h =
     let parts = and-parts (eqb x 0) (steps 0 x later) t in

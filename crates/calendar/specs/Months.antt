@@ -43,12 +43,12 @@ month-of (suc d) = cond (eqb (suc d) (first-day (suc (month-of d)))) (suc (month
 abbrev pub day-of-month : ℕ → ℕ
 day-of-month d = d - first-day (month-of d) + 1
 
--- Whether each number of a list, of which the first follows month i, is the one before, x at first, and the length of the month between.
+-- Whether a list of numbers, which follows the number x, goes up by the length of one month after another, from month i on.
 abbrev pub steps : ℕ → ℕ → List ℕ → Bool
 steps i x [] = true
 steps i x (y ∷ ys) = eqb y (x + month-length i) && steps (suc i) y ys
 
 -- The test of a table of first days: it begins with 0, and goes up by the length of each month.
-unfoldable pub ruled : List ℕ → Bool
+abbrev pub ruled : List ℕ → Bool
 ruled [] = false
 ruled (x ∷ xs) = eqb x 0 && steps 0 x xs

@@ -1,9 +1,8 @@
 -- Figures of the calendar that were worked by hand.
 use mathlib.Core.Path.{_≡_}
 use mathlib.Core.Bool.{true}
-use Prim.Native.Nat.{ℕ}
 use lib.Chars.{codes}
-use Rattle.calendar.specs.Months.{leap, length-in, month-length, first-day, month-of, day-of-month}
+use Rattle.calendar.specs.Months.{leap, month-length, first-day, month-of, day-of-month}
 use Rattle.calendar.specs.Texts.{month-text, date-text, time-text}
 use Rattle.calendar.specs.Weekdays.{weekday-of}
 

@@ -4,7 +4,7 @@ ghost use mathlib.Core.Path.{_≡_};
 ghost use Prim.Native.Nat.{_+_, _<_, _≤_};
 ghost use lib.Dec.{leb};
 ghost use lib.ListN.{length};
-ghost use Rattle.calendar.specs.Months.{leap, length-in, year-of, calendar-month, month-length, first-day, month-of, ruled};
+ghost use Rattle.calendar.specs.Months.{leap, year-of, calendar-month, month-length, first-day, month-of, ruled};
 ghost use Rattle.calendar.specs.Texts.{Reads, month-text};
 ghost use Rattle.std.specs.Options.{mapped};
 ghost use Rattle.std.specs.Text.{Ascii};
@@ -394,6 +394,7 @@ fn first_days() -> &'static [u16; 360]
     &FIRST_DAYS
 }
 
+// The first day of a month; all its days are in the calendar.
 fn first_day_of(month: u16) -> u16
     requires { ⌜ month ≤ 359 ⌝ }
     ensures value { λ r. ⌜ r ≡ first-day month ⌝ }
@@ -468,6 +469,7 @@ impl Month {
         }
     }
 
+    // The first of its days, all of which are in the calendar.
     pub fn first_day(self) -> Day
         ensures value { λ r. ⌜ r .number ≡ first-day (self .number) ⌝ }
         ensures inside { λ r. ⌜ r .number + month-length (self .number) ≤ 10958 ⌝ }
