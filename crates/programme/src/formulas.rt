@@ -105,11 +105,11 @@ fn reliable_surcharge(n: u16, reduction_kw: u32, price: u16, saving: u64) -> u64
     requires { ⌜ n ≤ 24 ⌝ ∗ ⌜ «reduction_kw» ≤ 200000 ⌝ ∗ ⌜ price ≤ 1000 ⌝ }
     ensures { λ r. ⌜ r ≡ reliable-surcharge n «reduction_kw» price saving ⌝ }
 {
-    let agreed = 5000 * reduction_kw as u64;
-    if saving >= agreed {
+    if !missed(reduction_kw, saving) {
         return 0;
     }
-    rounded((agreed - saving) * n as u64 * price as u64, 4_000_000)
+    let lacking = 5000 * reduction_kw as u64 - saving;
+    rounded(lacking * n as u64 * price as u64, 4_000_000)
 }
 
 // The event function of reliable bidding, which asks nothing of the notice's lateness.
