@@ -1,6 +1,6 @@
 -- The amounts of an event and of a month: economic and joint bidding, and reliable bidding. Amounts are whole dollars.
-use mathlib.Core.Bool.{Bool, true, false, cond}
-use Prim.Native.Nat.{ℕ, _+_, _-_, _*_, _/_}
+use mathlib.Core.Bool.{Bool, cond}
+use Prim.Native.Nat.{ℕ, _+_, _-_, _*_, _/_, _≤_, _<_}
 use lib.Dec.{ltb, leb, eqb}
 use Rattle.programme.specs.declared.terms.Terms.{Terms}
 use Rattle.programme.specs.Bounds.{quarters}
@@ -8,6 +8,10 @@ use Rattle.programme.specs.Bounds.{quarters}
 -- a / b rounded to the nearest whole number, a half upward.
 abbrev pub rounded : ℕ → ℕ → ℕ
 rounded a b = (2 * a + b) / (2 * b)
+
+-- What that means: a / b lies from half below the result to less than half above it.
+abbrev pub Nearest : ℕ → ℕ → ℕ → Type 0
+Nearest a b r = (2 * (b * r) ≤ 2 * a + b) × (2 * a + b < 2 * (b * r) + 2 * b)
 
 -- D, what was saved: the baseline of five days less five times the event load, or 0 if that is negative.
 abbrev pub saving : ℕ → ℕ → ℕ
@@ -22,10 +26,14 @@ early-rate u d = cond (ltb d (60 * u)) 0 (cond (ltb d (80 * u)) 100 (cond (leb d
 abbrev pub rate : Bool → ℕ → ℕ → ℕ
 rate late u d = cond late 120 (early-rate u d)
 
+-- The saving of an event of n quarters is on average below the programme's lowest reduction.
+abbrev pub below-lowest : ℕ → ℕ → ℕ → Bool
+below-lowest lowest n d = ltb d (5000 * n * lowest)
+
 -- Economic bidding's credit, p in hundredths of a dollar per kWh: 0 if the mean saving is below the lowest reduction, else D × p × rate / 200,000,000, rounded.
 abbrev pub economic-credit : ℕ → ℕ → ℕ → ℕ → Bool → ℕ → ℕ
 economic-credit lowest n reduction p late d =
-    cond (ltb d (5000 * n * lowest)) 0 (rounded (d * p * rate late (50 * n * reduction) d) 200000000)
+    cond (below-lowest lowest n d) 0 (rounded (d * p * rate late (50 * n * reduction) d) 200000000)
 
 -- Economic bidding knows no surcharge and no missed event.
 abbrev pub economic-event : ℕ → Terms → ℕ → Bool → ℕ → ℕ → ℕ × ℕ × ℕ
@@ -48,6 +56,7 @@ missed reduction d = ltb d (5000 * reduction)
 abbrev pub reliable-surcharge : ℕ → ℕ → ℕ → ℕ → ℕ
 reliable-surcharge n reduction p d = cond (missed reduction d) (rounded ((5000 * reduction - d) * n * p) 4000000) 0
 
+-- Credit, surcharge, and 1 for a missed event, else 0; the notice's lateness does not matter.
 abbrev pub reliable-event : Terms → ℕ → Bool → ℕ → ℕ → ℕ × ℕ × ℕ
 reliable-event t p late baseline load = (
   reliable-credit (quarters t) p (saving baseline load),

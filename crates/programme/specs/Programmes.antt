@@ -1,14 +1,9 @@
 -- The three programmes: economic bidding (E), joint bidding (J), reliable bidding (R).
-use mathlib.Core.Bool.{Bool, true, false, cond}
+use mathlib.Core.Bool.{Bool, true, false}
 use mathlib.Core.List.{List, [], _∷_}
 use Prim.Native.Nat.{ℕ}
-use lib.Dec.{eqb}
-use Rattle.std.specs.declared.option.Option.{Option}
-use Rattle.std.specs.declared.option.Option.the-variants.{Some, None}
 use Rattle.programme.specs.declared.codes.Code.{Code}
 use Rattle.programme.specs.declared.codes.Code.the-variants.{Economic, JointBidding, Reliable}
-use Rattle.programme.specs.declared.figures.Figures.{Figures}
-use Rattle.programme.specs.declared.figures.Fold.{Fold}
 use Rattle.programme.specs.declared.figures.Fold.the-variants.{Sum, Peak}
 use Rattle.programme.specs.Formulas.{economic-event, economic-basic, reliable-event, reliable-basic}
 use Rattle.programme.specs.Meaning.{Meaning}

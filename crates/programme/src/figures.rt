@@ -24,7 +24,7 @@ pub struct Figures {
     pub cap_hours: u8,
     // an offer must come before this quarter of the day before the event
     pub deadline: u8,
-    // whether notices after 18:00 of the day before are taken
+    // whether notices from 18:00 of the day before on are taken
     pub late_notices: bool,
     pub fold: Fold,
 }

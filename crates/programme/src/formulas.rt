@@ -4,14 +4,15 @@ ghost use mathlib.Core.Path.{_≡_};
 ghost use mathlib.Core.Bool.{false, true};
 ghost use Prim.Native.Nat.{ℕ, _+_, _-_, _*_, _<_, _≤_};
 ghost use Rattle.programme.specs.Bounds.{lawful-terms};
-ghost use Rattle.programme.specs.Formulas.{economic-credit, economic-event, reliable-basic, reliable-credit, reliable-event, reliable-surcharge};
-ghost use Rattle.programme.specs.Formulas.{rate as rate-of, rounded as rounded-ratio, saving as saved, missed as misses};
+ghost use Rattle.programme.specs.Formulas.{Nearest, economic-credit, economic-event, reliable-basic, reliable-credit, reliable-event, reliable-surcharge};
+ghost use Rattle.programme.specs.Formulas.{below-lowest as is-below, rate as rate-of, rounded as rounded-ratio, saving as saved, missed as misses};
 use crate::terms::Terms;
 
 // a / b rounded to the nearest whole number, a half upward.
 fn rounded(a: u64, b: u64) -> u64
     requires { ⌜ 0 < b ⌝ ∗ ⌜ b ≤ 1000000000 ⌝ ∗ ⌜ a ≤ 1000000000000000000 ⌝ }
-    ensures { λ r. ⌜ r ≡ rounded-ratio a b ⌝ }
+    ensures value { λ r. ⌜ r ≡ rounded-ratio a b ⌝ }
+    ensures nearest { λ r. ⌜ Nearest a b r ⌝ }
 {
     (2 * a + b) / (2 * b)
 }
@@ -42,6 +43,13 @@ pub fn rate(late: bool, n: u16, reduction_kw: u32, saving: u64) -> u8
     }
 }
 
+// Whether a saving is on average below the lowest reduction, so that nothing is paid.
+pub fn below_lowest(lowest_kw: u32, n: u16, saving: u64) -> bool
+    ensures { λ r. ⌜ r ≡ is-below «lowest_kw» n saving ⌝ }
+{
+    saving < 5000 * n as u64 * lowest_kw as u64
+}
+
 // Economic bidding's credit, also that of joint bidding, which has another lowest reduction.
 fn economic_credit(
     lowest_kw: u32,
@@ -54,7 +62,7 @@ fn economic_credit(
     requires { ⌜ «lowest_kw» ≤ 200000 ⌝ ∗ ⌜ n ≤ 24 ⌝ ∗ ⌜ price ≤ 1000 ⌝ ∗ ⌜ saving ≤ 100000000000 ⌝ }
     ensures { λ r. ⌜ r ≡ economic-credit «lowest_kw» n «reduction_kw» price late saving ⌝ }
 {
-    if saving < 5000 * n as u64 * lowest_kw as u64 {
+    if below_lowest(lowest_kw, n, saving) {
         return 0;
     }
     let percent = rate(late, n, reduction_kw, saving);

@@ -12,6 +12,7 @@ mod terms;
 pub use codes::Code;
 pub use figures::Figures;
 pub use figures::Fold;
+pub use formulas::below_lowest;
 pub use formulas::rate;
 pub use formulas::saving;
 pub use measures::Measure;

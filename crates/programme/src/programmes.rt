@@ -1,8 +1,7 @@
 // What a programme is, and the three that there are.
 
 ghost use mathlib.Core.Path.{_≡_};
-ghost use mathlib.Core.Bool.{Bool, true, false};
-ghost use Prim.Native.Nat.{ℕ, _≤_};
+ghost use mathlib.Core.Bool.{true};
 ghost use Rattle.programme.specs.Bounds.{lawful-terms, settleable};
 ghost use Rattle.programme.specs.Meaning.{Lawful, Meaning};
 ghost use Rattle.programme.specs.Programmes.{economic, joint-bidding, reliable};

@@ -18,6 +18,7 @@ on-day n d = record { number = n; day = d; quarter = 0; offset = 0 }
 abbrev pub at-byte : ℕ → ℕ → Answer
 at-byte n b = record { number = n; day = 0; quarter = 0; offset = b }
 
+-- The number of each refusal, with its places, 0 where unused.
 abbrev pub answer-of : Refusal → Answer
 answer-of FirstDayTooLate = plain 1
 answer-of NoSuchAccount = plain 2

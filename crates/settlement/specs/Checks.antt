@@ -22,6 +22,7 @@ first-met (test ∷ tests) = cond (test .0) (test .1) (first-met tests)
 abbrev pub agreement-tests : Agreement → List (Bool × ℕ)
 agreement-tests a = (ltb 7 (a .account), 2) ∷ (not (allowed-terms (meaning-of (a .code) .figures) (a .terms)), 6) ∷ []
 
+-- The number by which an agreement is refused, 0 if it is not.
 abbrev pub agreement-test : Agreement → ℕ
 agreement-test a = first-met (agreement-tests a)
 
@@ -45,5 +46,6 @@ event-tests f t earlier e =
     ∷ (ltb (f .«cap_hours») (t .hours * (length earlier + 1)), 19)
     ∷ []
 
+-- The number by which an event is refused, 0 if it is not.
 abbrev pub event-test : Figures → Terms → List Event → Event → ℕ
 event-test f t earlier e = first-met (event-tests f t earlier e)

@@ -1,6 +1,5 @@
 -- What a month of events comes to, and what settling it answers.
 use mathlib.Core.Path.{_≡_}
-use mathlib.Core.Bool.{Bool, true, false}
 use mathlib.Core.List.{List}
 use Prim.Native.Nat.{ℕ, _<_}
 use lib.ListN.{length, getD, take}
@@ -51,6 +50,7 @@ Names-at a es None number = number ≡ agreement-test a
 Names-at a es (Some k) number =
     (k < length es) × Passed a es k × ((e : Event) → number ≡ event-test (meaning-of (a .code) .figures) (a .terms) (take k es) (getD es k e))
 
+-- The same of a refusal as it is answered; its number is never 0.
 abbrev pub Names : Agreement → List Event → Refused → Type 0
 Names a es r = Names-at a es (r .event) (answer-of (r .refusal) .number) × (0 < answer-of (r .refusal) .number)
 

@@ -5,7 +5,6 @@ use mathlib.Core.List.{List, [], _∷_}
 use Prim.Native.Nat.{ℕ, _*_, _-_}
 use Rattle.std.specs.shelf.Lists.{sumBy}
 use Rattle.calendar.specs.Months.{first-day}
-use Rattle.programme.specs.Formulas.{economic-credit}
 use Rattle.programme.specs.Programmes.{economic, reliable}
 use Rattle.programme.specs.declared.terms.Terms.{Terms}
 
@@ -17,12 +16,13 @@ example-terms = record { «capacity_kw» = 800; «reduction_kw» = 300; hours = 
 abbrev pub economic-pays : ℕ → ℕ
 economic-pays d = economic .event example-terms 600 false d 0 .0
 
+-- The same after a late notice.
 abbrev pub economic-pays-late : ℕ → ℕ
 economic-pays-late d = economic .event example-terms 600 true d 0 .0
 
 -- Reliable bidding at 6.00 dollars with a baseline of 700 kW: an event with so many kW of reduction.
-abbrev pub reliable-event : ℕ → ℕ × ℕ × ℕ
-reliable-event kw = reliable .event example-terms 600 false 3500000 (1000 * (700 - kw))
+abbrev pub settled-at : ℕ → ℕ × ℕ × ℕ
+settled-at kw = reliable .event example-terms 600 false 3500000 (1000 * (700 - kw))
 
 -- A month of seven events: 400 kW four times, 300 kW twice, 40 kW once.
 abbrev pub reductions : List ℕ
@@ -38,7 +38,7 @@ Worked-figures =
     × (economic-pays 14399999 ≡ 0)
     × (economic-pays-late 14399999 ≡ 5184)
     × (economic-pays-late 1599999 ≡ 0)
-    × (reliable .basic example-terms 7 (sumBy (λ kw. reliable-event kw .2) reductions) ≡ 15429)
-    × (sumBy (λ kw. reliable-event kw .0) reductions ≡ 52800)
-    × (sumBy (λ kw. reliable-event kw .1) reductions ≡ 3120)
+    × (reliable .basic example-terms 7 (sumBy (λ kw. settled-at kw .2) reductions) ≡ 15429)
+    × (sumBy (λ kw. settled-at kw .0) reductions ≡ 52800)
+    × (sumBy (λ kw. settled-at kw .1) reductions ≡ 3120)
     × (first-day 14 ≡ 425)
