@@ -15,17 +15,18 @@ use calendar::days::DayDisplay;
 use calendar::months::MonthDisplay;
 use calendar::quarters::QuarterDisplay;
 use programme::Code;
+use programme::below_lowest;
 use programme::rate;
 use programme::saving;
 use refusal::Refusal;
 use settlement::Agreement;
 use settlement::Event;
 use settlement::Totals;
-use sheet::Header;
-use sheet::LineFault;
 use sheet::Sheet;
-use sheet::SheetFault;
-use sheet::SheetFaultFromAlloc;
+use sheet_values::Header;
+use sheet_words::LineFault;
+use sheet_words::SheetFault;
+use sheet_words::SheetFaultFromAlloc;
 use std::alloc::AllocError;
 use std::alloc::Global;
 
@@ -53,7 +54,8 @@ fn heading(heap: Global, header: Header) -> Result<String, AllocError> {
     )
 }
 
-// The rate of economic and joint bidding in per cent; whether reliable bidding's reduction was met.
+// The rate of economic and joint bidding in per cent, or a dash where the saving is too small to be paid at any rate;
+// whether reliable bidding's reduction was met.
 fn outcome(
     heap: Global,
     agreement: Agreement,
@@ -65,10 +67,14 @@ fn outcome(
             let met = if missed == 0 { "met" } else { "missed" };
             String::from_str(heap, met)
         }
-        _ => {
+        Code::Economic | Code::JointBidding => {
             let saved = saving(event.baseline, event.event_load);
             let terms = agreement.terms;
-            let percent = rate(event.late, terms.quarters(), terms.reduction_kw, saved);
+            let n = terms.quarters();
+            if below_lowest(agreement.code.figures().lowest_kw, n, saved) {
+                return String::from_str(heap, "-");
+            }
+            let percent = rate(event.late, n, terms.reduction_kw, saved);
             format!(heap, "{percent}%")
         }
     }

@@ -1,7 +1,7 @@
 // settle SHEET: prints the account of a month's sheet.
 
 use account_text::account;
-use sheet::SheetFaultDisplay;
+use sheet_words::SheetFaultDisplay;
 use std::env;
 use std::fs;
 use std::io;

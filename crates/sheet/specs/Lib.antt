@@ -1,7 +1,2 @@
-pub mod Figures
-pub mod Words
-pub mod Events
-pub mod Faults
-pub mod Sheets
 pub mod Settling
-pub mod Drafts
+pub mod Sheets

@@ -1,33 +1,21 @@
 -- What settling a sheet answers.
 use mathlib.Core.Path.{_≡_}
-use mathlib.Core.Bool.{cond, _||_}
 use mathlib.Core.List.{List}
 use Prim.Native.Nat.{ℕ}
-use lib.Dec.{ltb}
 use lib.ListN.{getD}
 use Rattle.std.specs.Of.Vec.{vec-items}
 use Rattle.std.specs.declared.option.Option.{Option}
 use Rattle.std.specs.declared.option.Option.the-variants.{Some, None}
 use Rattle.std.specs.declared.result.Result.{Result}
 use Rattle.std.specs.declared.result.Result.the-variants.{Ok, Err}
-use Rattle.programme.specs.Programmes.{meaning-of}
 use Rattle.settlement.specs.Month.{Settles}
 use Rattle.settlement.specs.declared.events.Refused.{Refused}
 use Rattle.settlement.specs.declared.events.Totals.{Totals}
-use Rattle.sheet.specs.declared.faults.LineFault.the-variants.{Refused as Refusing}
-use Rattle.sheet.specs.declared.faults.SheetFault.{SheetFault}
-use Rattle.sheet.specs.declared.faults.SheetFault.the-variants.{Line}
-use Rattle.sheet.specs.declared.headers.Header.{Header}
+use Rattle.sheet_words.specs.declared.faults.LineFault.the-variants.{Refused as Refusing}
+use Rattle.sheet_words.specs.declared.faults.SheetFault.{SheetFault}
+use Rattle.sheet_words.specs.declared.faults.SheetFault.the-variants.{Line}
+use Rattle.sheet_values.specs.Headers.{refused-line}
 use Rattle.sheet.specs.declared.sheets.Sheet.{Sheet}
-
--- Where a refused agreement is at fault: at the account if that is above 7, else at the first of the terms that is out of its range.
-abbrev pub refused-line : Header → ℕ
-refused-line h =
-    cond (ltb 7 (h .agreement .account)) (h .lines .account)
-    (cond (ltb (h .agreement .terms .«capacity_kw») 100 || ltb 200000 (h .agreement .terms .«capacity_kw»)) (h .lines .capacity)
-    (cond (ltb (h .agreement .terms .«reduction_kw») (meaning-of (h .agreement .code) .figures .«lowest_kw») || ltb (h .agreement .terms .«capacity_kw») (h .agreement .terms .«reduction_kw»))
-    (h .lines .reduction)
-    (h .lines .hours)))
 
 -- Where a refusal is at fault: at the line of the event that it names, or at the header.
 abbrev pub line-at : Sheet → Option ℕ → ℕ

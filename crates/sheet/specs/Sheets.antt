@@ -7,7 +7,7 @@ use Rattle.std.specs.Of.Vec.{vec-items, vec-len}
 use Rattle.std.specs.shelf.Lists.{All}
 use Rattle.calendar.specs.Months.{month-of}
 use Rattle.settlement.specs.declared.events.Event.{Event}
-use Rattle.sheet.specs.declared.headers.Header.{Header}
+use Rattle.sheet_values.specs.declared.headers.Header.{Header}
 use Rattle.sheet.specs.declared.sheets.Sheet.{Sheet}
 
 -- The event's day is one of the sheet's month.

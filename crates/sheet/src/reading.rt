@@ -5,16 +5,16 @@ ghost use Rattle.std.specs.Of.Vec.{vec-items, vec-len};
 ghost use Rattle.std.specs.Slices.{found};
 ghost use Rattle.std.specs.Vec.{made};
 ghost use Rattle.sheet.specs.Sheets.{Falls-in, Sound};
-use crate::events::read_event;
-use crate::faults::LineFault;
-use crate::faults::SheetFault;
-use crate::faults::SheetFaultFromRefused;
-use crate::headers::Header;
-use crate::noted::Draft;
 use crate::sheets::Sheet;
-use crate::statements::Statement;
-use crate::statements::parse;
 use settlement::Event;
+use sheet_values::Draft;
+use sheet_values::Header;
+use sheet_values::read_event;
+use sheet_words::LineFault;
+use sheet_words::SheetFault;
+use sheet_words::SheetFaultFromRefused;
+use sheet_words::Statement;
+use sheet_words::parse;
 use std::alloc::Global;
 
 // A line's fault with its line, but for want of memory, which is none of the line's.

@@ -1,34 +1,12 @@
 // Settling a sheet.
 
 ghost use mathlib.Core.Path.{_≡_};
-ghost use Rattle.sheet.specs.Settling.{line-at, refused-line, Settled};
-use crate::faults::LineFault;
-use crate::faults::SheetFault;
-use crate::headers::Header;
+ghost use Rattle.sheet.specs.Settling.{line-at, Settled};
 use crate::sheets::Sheet;
 use settlement::Totals;
 use settlement::settle_month;
-
-impl Header {
-    // The line that a refusal of the agreement names: that of the account, or of the first of the terms that is out of its range.
-    pub fn refused_line(self) -> usize
-        ensures { λ r. ⌜ r ≡ refused-line self ⌝ }
-    {
-        let agreement = self.agreement;
-        let terms = agreement.terms;
-        if agreement.account > 7 {
-            self.lines.account
-        } else if terms.capacity_kw < 100 || terms.capacity_kw > 200_000 {
-            self.lines.capacity
-        } else if terms.reduction_kw < agreement.code.figures().lowest_kw
-            || terms.reduction_kw > terms.capacity_kw
-        {
-            self.lines.reduction
-        } else {
-            self.lines.hours
-        }
-    }
-}
+use sheet_words::LineFault;
+use sheet_words::SheetFault;
 
 impl Sheet {
     // The line of an event, 0 where it has none; or the line of the agreement where no event is named.

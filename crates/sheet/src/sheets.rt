@@ -1,7 +1,7 @@
 // A month's sheet.
 
-use crate::headers::Header;
 use settlement::Event;
+use sheet_values::Header;
 
 #[derive(Drop)]
 pub struct Sheet {

@@ -2,7 +2,7 @@
 
 use settlement::Totals;
 use sheet::Sheet;
-use sheet::SheetFault;
+use sheet_words::SheetFault;
 use std::alloc::Global;
 use std::test::*;
 
@@ -112,23 +112,21 @@ fn reliable_months_pay(rt: LibcRuntime) -> Result<(), Fail> {
     check_eq(amounts(heap, some.as_bytes())?, (15_429, 52_800, 3120))
 }
 
-// A mean in kW and the figure itself give the same amounts: 80 readings of 400,125 W and 16 of 220,500 W, added up;
+// A demand in kW and the figure itself give the same amounts: 80 readings of 400,125 W and 16 of 200,500 W, added up;
 // five largest readings of 700,125 W and one of 300,000 W.
 #[test]
 fn notations_agree(rt: LibcRuntime) -> Result<(), Fail> {
     let heap = rt.alloc();
     let means = format!(
         heap,
-        "{ECONOMIC}event 2026-07-06 13:00 early 5.55 400.125kW 220.5kW\n"
+        "{ECONOMIC}event 2026-07-06 13:00 early 5.55 400.125kW 200.5kW\n"
     )?;
     let sums = format!(
         heap,
-        "{ECONOMIC}event 2026-07-06 13:00 early 5.55 32010000 3528000\n"
+        "{ECONOMIC}event 2026-07-06 13:00 early 5.55 32010000 3208000\n"
     )?;
-    check_eq(
-        amounts(heap, means.as_bytes())?,
-        amounts(heap, sums.as_bytes())?,
-    )?;
+    check_eq(amounts(heap, means.as_bytes())?, (0, 4432, 0))?;
+    check_eq(amounts(heap, sums.as_bytes())?, (0, 4432, 0))?;
     let header = "programme R\naccount 3\nmonth 2026-07\ncapacity 800\nreduction 300\nhours 4\n";
     let means = format!(
         heap,
@@ -138,8 +136,6 @@ fn notations_agree(rt: LibcRuntime) -> Result<(), Fail> {
         heap,
         "{header}event 2026-07-06 13:00 early 5.55 3500625 300000\n"
     )?;
-    check_eq(
-        amounts(heap, means.as_bytes())?,
-        amounts(heap, peaks.as_bytes())?,
-    )
+    check_eq(amounts(heap, means.as_bytes())?, (21_600, 8883, 0))?;
+    check_eq(amounts(heap, peaks.as_bytes())?, (21_600, 8883, 0))
 }

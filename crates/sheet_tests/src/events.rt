@@ -14,6 +14,9 @@ const RELIABLE: &str =
 const RELIABLE_APRIL: &str =
     "programme R\naccount 3\nmonth 2026-04\ncapacity 800\nreduction 300\nhours 4\n";
 
+const RELIABLE_MAY: &str =
+    "programme R\naccount 3\nmonth 2026-05\ncapacity 800\nreduction 300\nhours 4\n";
+
 struct Case {
     header: &'static str,
     events: &'static str,
@@ -21,7 +24,7 @@ struct Case {
 }
 
 // The header has six lines, so the first event stands on line 7.
-const CASES: [Case; 26] = [
+const CASES: [Case; 30] = [
     Case {
         header: ECONOMIC,
         events: "event 2026-07-06 13:00 early 6.00 700kW 300kW",
@@ -95,12 +98,12 @@ const CASES: [Case; 26] = [
     Case {
         header: ECONOMIC,
         events: "event 2026-07-06 13:00 early 6.00 0",
-        says: "line 7: \"event\" takes DATE START early|late PRICE BASELINE LOAD, not 5 words",
+        says: "line 7: \"event\" takes DATE START early|late PRICE BASELINE LOAD; 5 given",
     },
     Case {
         header: ECONOMIC,
         events: "event 2026-07-06 13:00 early 6.00 0 0 0",
-        says: "line 7: \"event\" takes DATE START early|late PRICE BASELINE LOAD, not 7 words",
+        says: "line 7: \"event\" takes DATE START early|late PRICE BASELINE LOAD; 7 given",
     },
     Case {
         header: ECONOMIC,
@@ -153,6 +156,29 @@ const CASES: [Case; 26] = [
         events: "event 2026-07-06 13:00 late 6.00 0 0",
         says: "line 7: refusal 18: the notice is neither early nor taken late",
     },
+    // a Sunday
+    Case {
+        header: ECONOMIC,
+        events: "event 2026-07-05 13:00 early 6.00 0 0",
+        says: "line 7: refusal 15: the day is no business day",
+    },
+    // the window ends at midnight
+    Case {
+        header: ECONOMIC,
+        events: "event 2026-07-06 20:00 early 6.00 0 0",
+        says: "settled",
+    },
+    Case {
+        header: RELIABLE_MAY,
+        events: "event 2026-05-06 13:00 early 6.00 0 0",
+        says: "settled",
+    },
+    // a word that cannot be read comes before an earlier line's refusal
+    Case {
+        header: ECONOMIC,
+        events: "event 2026-07-04 13:00 early 6.00 0 0\nevent 2026-07-06 13:00 early six 0 0",
+        says: "line 8: six is no number",
+    },
 ];
 
 fn judged(heap: Global, case: &Case) -> Result<String, AllocError> {
@@ -184,5 +210,22 @@ fn the_cap_is_kept(rt: LibcRuntime) -> Result<(), Fail> {
     check_eq(
         said(heap, passed.as_bytes())?.as_str(),
         "line 14: refusal 19: the month's hours pass the programme's cap",
+    )
+}
+
+// Nine events of four hours reach economic bidding's cap of 36 hours, and a tenth passes it.
+#[test]
+fn the_economic_cap_is_kept(rt: LibcRuntime) -> Result<(), Fail> {
+    let heap = rt.alloc();
+    let mut text = String::from_str(heap, ECONOMIC)?;
+    for day in ["06", "07", "08", "09", "10", "13", "14", "15", "16"] {
+        let event = format!(heap, "event 2026-07-{day} 13:00 late 6.00 0 0\n")?;
+        text.push_str(event.as_str())?;
+    }
+    check_eq(said(heap, text.as_bytes())?.as_str(), "settled")?;
+    text.push_str("event 2026-07-17 13:00 early 6.00 0 0\n")?;
+    check_eq(
+        said(heap, text.as_bytes())?.as_str(),
+        "line 16: refusal 19: the month's hours pass the programme's cap",
     )
 }

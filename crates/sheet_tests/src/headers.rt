@@ -1,7 +1,7 @@
 // Headers that are refused.
 
 use account_text::account;
-use sheet::SheetFaultDisplay;
+use sheet_words::SheetFaultDisplay;
 use std::alloc::AllocError;
 use std::alloc::Global;
 use std::test::*;
@@ -115,7 +115,7 @@ const CASES: [Case; 24] = [
     },
     Case {
         text: "hours\n",
-        says: "line 1: \"hours\" takes one number, not 0 words",
+        says: "line 1: \"hours\" takes one number; 0 given",
     },
 ];
 

@@ -1,4 +1,4 @@
-// The printed account of the second sample: economic bidding with every rate.
+// Printed accounts: the second sample, economic bidding with every rate; and some that the samples lack.
 
 use account_text::account;
 use std::test::*;
@@ -41,10 +41,84 @@ Surcharges                   0
 Net                     31,680
 ";
 
+// A saving below the programme's lowest reduction has no rate; demands are rounded for the eye.
+const JOINT: &str = "programme J
+account 2
+month 2026-07
+capacity 500
+reduction 100
+hours 4
+event 2026-07-06 13:00 early 6.00 400kW 350kW
+event 2026-07-07 13:00 early 6.00 32000040 4800001
+";
+
+const JOINT_ACCOUNT: &str = "Account 2: joint bidding (J), 2026-07
+Contract capacity 500 kW, agreed reduction 100 kW, events of 4 hours
+
+date        start  notice  price  baseline kW      load kW  reduction kW    rate         credit      surcharge
+2026-07-06  13:00  early    6.00      400.000      350.000        50.000       -              0              0
+2026-07-07  13:00  early    6.00      400.001      300.000       100.000    110%          2,640              0
+
+Basic credit                 0
+Credits                  2,640
+Surcharges                   0
+Net                      2,640
+";
+
+// Nothing was saved: the account owes the surcharge.
+const OWED: &str = "programme R
+account 3
+month 2026-07
+capacity 800
+reduction 300
+hours 4
+event 2026-07-06 13:00 early 6.00 0 0
+";
+
+const OWED_ACCOUNT: &str = "Account 3: reliable bidding (R), 2026-07
+Contract capacity 800 kW, agreed reduction 300 kW, events of 4 hours
+
+date        start  notice  price  baseline kW      load kW  reduction kW    rate         credit      surcharge
+2026-07-06  13:00  early    6.00        0.000        0.000         0.000  missed              0          3,600
+
+Basic credit                 0
+Credits                      0
+Surcharges               3,600
+Net                     -3,600
+";
+
+const NO_EVENTS: &str = "programme E
+account 1
+month 2026-07
+capacity 500
+reduction 300
+hours 4
+";
+
+const NO_EVENTS_ACCOUNT: &str = "Account 1: economic bidding (E), 2026-07
+Contract capacity 500 kW, agreed reduction 300 kW, events of 4 hours
+
+date        start  notice  price  baseline kW      load kW  reduction kW    rate         credit      surcharge
+
+Basic credit                 0
+Credits                      0
+Surcharges                   0
+Net                          0
+";
+
 #[test]
-fn economic_account_is_printed(rt: LibcRuntime) -> Result<(), Fail> {
-    match account(rt.alloc(), SHEET.as_bytes()) {
-        Ok(text) => check_eq(text.as_str(), ACCOUNT),
-        Err(_) => Err(Fail::new("refused")),
+fn accounts_are_printed(rt: LibcRuntime) -> Result<(), Fail> {
+    let table = [
+        (SHEET, ACCOUNT),
+        (JOINT, JOINT_ACCOUNT),
+        (OWED, OWED_ACCOUNT),
+        (NO_EVENTS, NO_EVENTS_ACCOUNT),
+    ];
+    for (sheet, printed) in table {
+        match account(rt.alloc(), sheet.as_bytes()) {
+            Ok(text) => check_eq(text.as_str(), printed)?,
+            Err(_) => return Err(Fail::new("refused")),
+        }
     }
+    Ok(())
 }

@@ -1,0 +1,4 @@
+pub mod Drafts
+pub mod Events
+pub mod Figures
+pub mod Headers
