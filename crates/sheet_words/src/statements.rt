@@ -27,10 +27,7 @@ pub enum Statement<'a> {
 
 // The line without its comment.
 fn bare(line: &str) -> &str {
-    match line.split_once('#') {
-        Some((before, _comment)) => before,
-        None => line,
-    }
+    line.split('#').next().unwrap_or(line)
 }
 
 pub fn parse(heap: Global, line: &str) -> Result<Statement<'_>, LineFault> {
