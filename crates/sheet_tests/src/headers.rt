@@ -191,6 +191,6 @@ fn random_bytes_are_refused(rt: LibcRuntime) -> Result<(), Fail> {
     )?;
     check_eq(
         said(heap, b"\x01\x7f\x1b[")?.as_str(),
-        "line 1: \"\x01\x7f\x1b[\" is none of the words programme, account, month, capacity, reduction, hours, event",
+        "line 1: \"\\u{1}\\u{7f}\\u{1b}[\" is none of the words programme, account, month, capacity, reduction, hours, event",
     )
 }

@@ -34,12 +34,18 @@ fn remark(complaint: Complaint) -> &'static str {
     }
 }
 
-// Numbers and dates stand without quotes.
+// Words of plain characters stand without quotes, but for an unknown first word.
+// In quotes whatever a terminal would obey or not show is escaped.
 fn is_quoted(text: &str, complaint: Complaint) -> bool {
-    match complaint {
-        Complaint::UnknownWord => true,
-        _ => text.is_empty(),
+    if let Complaint::UnknownWord = complaint {
+        return true;
     }
+    for byte in text.bytes() {
+        if !byte.is_ascii_graphic() {
+            return true;
+        }
+    }
+    text.is_empty()
 }
 
 // The words that stand after the first.
@@ -58,7 +64,7 @@ pub impl fmt::Display for LineFault as LineFaultDisplay {
             LineFault::Wrong { text, complaint } => {
                 let remark = remark(*complaint);
                 if is_quoted(text.as_str(), *complaint) {
-                    write!(f, "\"{text}\" {remark}")
+                    write!(f, "{text:?} {remark}")
                 } else {
                     write!(f, "{text} {remark}")
                 }
