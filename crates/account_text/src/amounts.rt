@@ -19,7 +19,7 @@ use std::alloc::AllocError;
 use std::alloc::Global;
 
 // a / b to the nearest whole number, a half upward, and 0 where b is 0. Only what is shown is rounded.
-pub fn rounded(a: u64, b: u64) -> u64
+pub(crate) fn rounded(a: u64, b: u64) -> u64
     ensures { λ r. ⌜ r ≡ capped (a + b / 2) / b ⌝ }
 {
     if b == 0 {
@@ -29,7 +29,7 @@ pub fn rounded(a: u64, b: u64) -> u64
 }
 
 // How many readings' watts are added up in a figure of so many windows of n quarters.
-pub fn parts(fold: Fold, windows: u64, n: u16) -> u64
+pub(crate) fn parts(fold: Fold, windows: u64, n: u16) -> u64
     ensures { λ r. ⌜ r ≡ per-window fold windows n ⌝ }
 {
     match fold {
@@ -51,14 +51,14 @@ pub fn net(totals: Totals) -> Net
 }
 
 // Dollars, with thousands separators.
-pub fn dollars(heap: Global, amount: u64) -> Result<String, AllocError>
+pub(crate) fn dollars(heap: Global, amount: u64) -> Result<String, AllocError>
     ensures { λ r. ⌜ made r (λ text. string-bytes text ≡ grouped amount) ⌝ }
 {
     Grouped(amount).to_string(heap)
 }
 
 // Watts as kW with three decimals.
-pub fn kilowatts(heap: Global, watts: u64) -> Result<String, AllocError>
+pub(crate) fn kilowatts(heap: Global, watts: u64) -> Result<String, AllocError>
     ensures { λ r. ⌜ made r (λ text. string-bytes text ≡ with-decimals Three watts) ⌝ }
 {
     let text = Fixed {
@@ -69,7 +69,7 @@ pub fn kilowatts(heap: Global, watts: u64) -> Result<String, AllocError>
 }
 
 // Hundredths of a dollar as dollars.
-pub fn price(heap: Global, hundredths: u16) -> Result<String, AllocError>
+pub(crate) fn price(heap: Global, hundredths: u16) -> Result<String, AllocError>
     ensures { λ r. ⌜ made r (λ text. string-bytes text ≡ with-decimals Two hundredths) ⌝ }
 {
     let text = Fixed {

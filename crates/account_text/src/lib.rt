@@ -5,7 +5,6 @@ mod nets;
 mod printing;
 
 pub use amounts::net;
-pub use amounts::rounded;
 pub use nets::Net;
 pub use printing::account;
 pub use printing::account_text;

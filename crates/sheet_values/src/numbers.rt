@@ -33,19 +33,19 @@ pub fn number(heap: Global, text: &str, places: Places) -> Result<u64, LineFault
 }
 
 // Numbers too large for their type become its largest, which no check of a settlement lets pass.
-pub fn fit_u8(n: u64) -> u8
+pub(crate) fn fit_u8(n: u64) -> u8
     ensures { λ r. ⌜ r ≡ min n 255 ⌝ }
 {
     n.min(255) as u8
 }
 
-pub fn fit_u16(n: u64) -> u16
+pub(crate) fn fit_u16(n: u64) -> u16
     ensures { λ r. ⌜ r ≡ min n 65535 ⌝ }
 {
     n.min(65_535) as u16
 }
 
-pub fn fit_u32(n: u64) -> u32
+pub(crate) fn fit_u32(n: u64) -> u32
     ensures { λ r. ⌜ r ≡ min n 4294967295 ⌝ }
 {
     n.min(4_294_967_295) as u32
