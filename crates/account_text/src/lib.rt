@@ -1,5 +1,7 @@
 // The account of a month's sheet, as text.
 
+#![tactic(auto)]
+
 mod amounts;
 mod nets;
 mod printing;

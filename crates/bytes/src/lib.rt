@@ -1,5 +1,7 @@
 // Bytes and numbers written into a lent buffer, the highest byte first.
 
+#![tactic(auto)]
+
 ghost use Rattle.std.specs.Prelude.{◌≡◌, ◌+◌, ◌≤◌, length};
 ghost use Rattle.bytes.specs.Numbers.{be16, be32, be64, be8};
 ghost use Rattle.bytes.specs.Wrote.{spliced, Wrote};

@@ -1,4 +1,7 @@
 // Days, months, quarters of an hour and moments from 2015 to 2044, and their texts.
+
+#![tactic(auto)]
+
 pub mod days;
 mod digits;
 pub mod moments;

@@ -1,5 +1,7 @@
 // Decimal numbers as people write them: reading them in units of their last place, and writing numbers.
 
+#![tactic(auto)]
+
 mod kinds;
 mod reading;
 mod writing;

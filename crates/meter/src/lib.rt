@@ -1,5 +1,7 @@
 // Quarter-hour demand: what a meter is, a table of readings, and a group of accounts that reads as one.
 
+#![tactic(auto)]
+
 mod filing;
 mod groups;
 mod layouts;

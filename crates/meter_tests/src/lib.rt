@@ -1,5 +1,7 @@
 // Tables, groups and windows on a few days.
 
+#![tactic(auto)]
+
 #[cfg(test)]
 mod tests {
     use meter::{Group, GroupMeter, Layout, MARK, Meter, Table};

@@ -1,5 +1,7 @@
 // A small packed file, read, walked through and spoilt.
 
+#![tactic(auto)]
+
 #[cfg(test)]
 mod read;
 #[cfg(test)]

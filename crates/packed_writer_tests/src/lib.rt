@@ -1,5 +1,7 @@
 // Packed files as they are written, byte by byte.
 
+#![tactic(auto)]
+
 #[cfg(test)]
 mod tests {
     use meter::Meter;

@@ -1,5 +1,7 @@
 // Demand response programmes: what an account agrees on, the fixed figures of a programme, its measure of readings, and its amounts.
 
+#![tactic(auto)]
+
 mod codes;
 mod dispatch;
 mod figures;

@@ -1,5 +1,7 @@
 // Every numbered reason for which a call is refused, with the places it names.
 
+#![tactic(auto)]
+
 mod refusals;
 mod sentences;
 mod tells;

@@ -1,5 +1,7 @@
 // Every refusal, as a clerk reads it.
 
+#![tactic(auto)]
+
 #[cfg(test)]
 mod tests {
     use refusal::Refusal;

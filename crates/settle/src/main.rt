@@ -1,5 +1,7 @@
 // settle SHEET: prints the account of a month's sheet.
 
+#![tactic(auto)]
+
 use account_text::account;
 use std::{env, fs, io};
 

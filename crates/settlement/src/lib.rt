@@ -1,5 +1,7 @@
 // One account's month: the checks of its agreement and its events, and the amounts.
 
+#![tactic(auto)]
+
 mod checks;
 mod events;
 mod totals;

@@ -1,5 +1,7 @@
 // A month's sheet of one account: reading it, and settling it.
 
+#![tactic(auto)]
+
 mod reading;
 mod settling;
 mod sheets;

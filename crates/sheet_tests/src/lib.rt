@@ -1,5 +1,7 @@
 // Tests of sheets: what is accepted and paid, and what is refused with which words.
 
+#![tactic(auto)]
+
 #[cfg(test)]
 mod amounts;
 #[cfg(test)]

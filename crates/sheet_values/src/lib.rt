@@ -1,5 +1,7 @@
 // The values of a month's sheet: its header and its events, read from words.
 
+#![tactic(auto)]
+
 mod drafts;
 mod events;
 mod figures;

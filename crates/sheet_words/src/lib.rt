@@ -1,5 +1,7 @@
 // The statements of a month's sheet as words, and what may be wrong with them.
 
+#![tactic(auto)]
+
 mod blames;
 mod faults;
 mod keys;

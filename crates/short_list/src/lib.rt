@@ -1,5 +1,7 @@
 // Lists of a few values that take no memory of their own.
 
+#![tactic(auto)]
+
 mod lists;
 mod methods;
 

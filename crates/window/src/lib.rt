@@ -1,5 +1,7 @@
 // The figures that a settlement is made of: what a window of a day comes to, and the windows of several days together.
 
+#![tactic(auto)]
+
 mod figures;
 mod windows;
 
