@@ -29,8 +29,8 @@ impl fmt::Display for Fixed {
 
 // Writes a number with a comma before each three digits but the first.
 fn write_groups<W: fmt::Write>(n: u64, f: &mut fmt::Formatter<W>) -> fmt::Result
-    ensures parts { (k : ℕ) → n < 1000 * 1000 ^ k → WritesOnOk write_str_gives f.old result (groups k n) f.new }
-    ensures whole { WritesOnOk write_str_gives f.old result (grouped n) f.new }
+    ensures parts { (k : ℕ) → n < 1000 * 1000 ^ k → WritesOnOk W.write_str_gives f.old result (groups k n) f.new }
+    ensures whole { WritesOnOk W.write_str_gives f.old result (grouped n) f.new }
 {
     if n < 1000 {
         return write!(f, "{n}");

@@ -5,18 +5,18 @@ use Rattle.decimals.specs.declared.kinds.Misread.TheVariants.{Empty, NotANumber,
 use Rattle.decimals.proofs.Laws.{none_spelt}
 use Rattle.decimals.proofs.reading.read.Goals as goal
 
-pub returns-then-is-empty : goal.returns-then-is-empty
-returns-then-is-empty c =
+pub returns-then-is_empty : goal.returns-then-is_empty
+returns-then-is_empty c =
     let means = nil_from_length c.args.text.now (search rules) in
     record { means = means; only = none_spelt (places_of c.args.places) c.args.text.now Empty means }
 
-pub returns-in-default : goal.returns-in-default
-returns-in-default c =
+pub returns-in_default : goal.returns-in_default
+returns-in_default c =
     let means : Refused (places_of c.args.places) c.args.text.now NotANumber = search rules in
     record { means = means; only = none_spelt (places_of c.args.places) c.args.text.now NotANumber means }
 
-pub returns-then-whole-part-gt-MOST-DIGITS : goal.returns-then-whole-part-gt-MOST-DIGITS
-returns-then-whole-part-gt-MOST-DIGITS c =
+pub returns-then-whole-part-gt-MOST_DIGITS : goal.returns-then-whole-part-gt-MOST_DIGITS
+returns-then-whole-part-gt-MOST_DIGITS c =
     let means : Refused (places_of c.args.places) c.args.text.now TooManyDigits = search rules in
     record { means = means; only = none_spelt (places_of c.args.places) c.args.text.now TooManyDigits means }
 
@@ -25,14 +25,14 @@ returns-then-part-count c =
     let means : Refused (places_of c.args.places) c.args.text.now TooManyDecimals = search rules in
     record { means = means; only = none_spelt (places_of c.args.places) c.args.text.now TooManyDecimals means }
 
-pub overflow-mul-result : goal.overflow-mul-result
-overflow-mul-result c =
+pub overflow_mul-result : goal.overflow_mul-result
+overflow_mul-result c =
     let v : c.value.result ≤ 1000000000000000 = omega arith in
-    let most = mul-le-mul v c.ten-to.ensures.small in search rules
+    let most = mul-le-mul v c.ten_to.ensures.small in search rules
 
-pub overflow-add-result : goal.overflow-add-result
-overflow-add-result c =
+pub overflow_add-result : goal.overflow_add-result
+overflow_add-result c =
     let v : c.value.result ≤ 1000000000000000 = omega arith in
     let w : c.value-2.result ≤ 1000000000000000 = omega arith in
-    let most = mul-le-mul v c.ten-to.ensures.small in
-    let more = mul-le-mul w c.ten-to-2.ensures.small in search rules
+    let most = mul-le-mul v c.ten_to.ensures.small in
+    let more = mul-le-mul w c.ten_to-2.ensures.small in search rules

@@ -5,11 +5,11 @@ use Rattle.decimals.specs.Numerals.{value}
 use Rattle.decimals.proofs.Laws.{front_small, value_small}
 use Rattle.decimals.proofs.reading.value.Goals as goal
 
-pub overflow-mul-value : goal.overflow-mul-value
-overflow-mul-value c = let small = front_small c.args.digits.now c.loop-b.b-index (omega arith) c.requires.few c.requires.all in search rules
+pub overflow_mul-value : goal.overflow_mul-value
+overflow_mul-value c = let small = front_small c.args.digits.now c.loop-b.b-index (omega arith) c.requires.few c.requires.all in search rules
 
-pub overflow-add-value : goal.overflow-add-value
-overflow-add-value c = let small = front_small c.args.digits.now c.loop-b.b-index (omega arith) c.requires.few c.requires.all in search rules
+pub overflow_add-value : goal.overflow_add-value
+overflow_add-value c = let small = front_small c.args.digits.now c.loop-b.b-index (omega arith) c.requires.few c.requires.all in search rules
 
 pub loop-b-preserved : goal.loop-b-preserved
 loop-b-preserved c =

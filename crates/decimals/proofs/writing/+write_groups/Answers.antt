@@ -16,6 +16,6 @@ returns g t c =
     let all : (k : ℕ) → c.args.n < 1000 * 1000 ^ k → WritesOnOk g.W.Write.write_str_gives c.args.f.now c.write-2.result (groups k c.args.n) c.write-2.new.self =
     λ k h plain ok.
     let m = groups_more k c.args.n c.if-n-lt1000.false h in
-    let first = c.write-groups.ensures.parts m.0 m.1 plain (search rules) in
+    let first = c.write_groups.ensures.parts m.0 m.1 plain (search rules) in
     has_written_of_eq g.W.Write.write_str_gives _ _ _ _ m.2 (has_written_append g.W.Write.write_str_gives _ _ _ _ _ first (c.write-2.ensures.writes first.plain ok)) in
     record { parts = all; whole = all 6 (omega arith) }

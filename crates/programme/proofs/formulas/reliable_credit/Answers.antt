@@ -2,8 +2,8 @@ use Rattle.std.proofs.Common.{◌≤◌, arith, rules}
 use Rattle.programme.specs.Amounts.{thrice}
 use Rattle.programme.proofs.formulas.reliable_credit.Goals as goal
 
-pub overflow-mul-saving-2 : goal.overflow-mul-saving-2
-overflow-mul-saving-2 c =
+pub overflow_mul-saving-2 : goal.overflow_mul-saving-2
+overflow_mul-saving-2 c =
     let d : c.args.saving ≤ 100000000000 = omega arith in
     let n : c.args.n ≤ 24 = omega arith in
     let p : c.args.price ≤ 1000 = omega arith in

@@ -24,6 +24,6 @@ loop-i-preserved c =
     let i = c.loop-i.i in
     let e = c.index-events-i.result in
     let here = at_place (meaning_of a.code).figures c.figures-figures.result a.terms es i e 0
-    c.figures-figures.ensures c.loop-i-test.true c.index-events-i.is (ap (λ (a : Answer). a.number) c.in-default.ensures) in
+    c.figures-figures.ensures c.loop-i-test.true c.index-events-i.is (ap (λ (a : Answer). a.number) c.in_default.ensures) in
     let less : length (take i es) + 1 ≤ 18 = few a (take i es) (get_or es i e) c.requires (sym (here e)) in
     ((c.requires, below_more _ i c.loop-i.invariant.0.1 (λ d. sym (here d))), omega (arith, length-take i es))

@@ -7,6 +7,6 @@ use Rattle.sheet_values.proofs.numbers.number.Goals as goal
 pub returns-in-Err : goal.returns-in-Err
 returns-in-Err c = (
   c.in-Err.why,
-  subst (λ (xs : List ℕ). Refused (places_of c.args.places) xs c.in-Err.why) c.as-bytes.ensures.value c.in-Err.ensures.means,
+  subst (λ (xs : List ℕ). Refused (places_of c.args.places) xs c.in-Err.why) c.as_bytes.ensures.value c.in-Err.ensures.means,
   subst (λ (x : Complaint). Blames c.args.text.now x c.blame.result) c.complaint.ensures c.blame.ensures,
 )

@@ -8,16 +8,16 @@ use Rattle.sheet.proofs.sheets.Sheet.read.Goals as goal
 pub loop-line-preserved-in-Continue·-branch-3 : goal.loop-line-preserved-in-Continue·-branch-3
 loop-line-preserved-in-Continue·-branch-3 c =
     let inv = c.loop-line.invariant in
-    let lines : vec_items c.push-in-Some-found.new.self ≡ vec_items c.loop-line.lines ++ ((c.loop-line.number + 1) ∷ []) = c.in-ok-push-2.ensures.items in
-    let events : vec_items c.push.new.self ≡ vec_items c.loop-line.events ++ (c.in-Some-found.event ∷ []) = c.in-ok-push.ensures.items in
-    let falls = subst (λ (o : Option Event). IfSome o (FallsIn c.in-ok-header.header)) c.in-Some-found.is c.in-Ok-event-of.ensures in (
+    let lines : vec_items c.push-in-Some-found.new.self ≡ vec_items c.loop-line.lines ++ ((c.loop-line.number + 1) ∷ []) = c.in_ok-push-2.ensures.items in
+    let events : vec_items c.push.new.self ≡ vec_items c.loop-line.events ++ (c.in-Some-found.event ∷ []) = c.in_ok-push.ensures.items in
+    let falls = subst (λ (o : Option Event). IfSome o (FallsIn c.in_ok-header.header)) c.in-Some-found.is c.in-Ok-event_of.ensures in (
       tt,
       tt,
       search rules,
       search rules,
       rw lines (rising_push (vec_items c.loop-line.lines) c.loop-line.number inv.4 inv.5),
       rw lines (below_push (vec_items c.loop-line.lines) c.loop-line.number inv.5),
-      rw events (All-push (FallsIn c.in-ok-header.header) (vec_items c.loop-line.events) c.in-Some-found.event inv.6 falls),
+      rw events (All-push (FallsIn c.in_ok-header.header) (vec_items c.loop-line.events) c.in-Some-found.event inv.6 falls),
     )
 
 pub loop-line-preserved : goal.loop-line-preserved

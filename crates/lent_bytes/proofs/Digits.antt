@@ -1,6 +1,6 @@
 -- A number that fits has the same bytes by either definition.
 use Rattle.std.proofs.Common.{◌≡◌, ℕ, ◌^◌, ◌<◌, ◌∷◌, refl, ap₂, arith}
-use Rattle.bytes.specs.Numbers.{be16, be32, be64, be8, big_endian}
+use Rattle.lent_bytes.specs.Numbers.{be16, be32, be64, be8, big_endian}
 
 pub of_1 : (n : ℕ) → be8 n ≡ big_endian 1 n
 unfolding big_endian

@@ -3,8 +3,8 @@
 #![tactic(auto)]
 
 ghost use Rattle.std.specs.Prelude.{◌≡◌, ◌+◌, ◌≤◌, length};
-ghost use Rattle.bytes.specs.Numbers.{be16, be32, be64, be8};
-ghost use Rattle.bytes.specs.Wrote.{spliced, Wrote};
+ghost use Rattle.lent_bytes.specs.Numbers.{be16, be32, be64, be8};
+ghost use Rattle.lent_bytes.specs.Wrote.{spliced, Wrote};
 
 // Writes bytes from a place on.
 fn overwrite(buffer: &mut [u8], at: usize, bytes: &[u8])
