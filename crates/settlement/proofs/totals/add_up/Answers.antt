@@ -16,10 +16,10 @@ loop-event-preserved g c =
     let e = c.event-item.result in
     let inv = c.loop-event.invariant in
     let can : settleable m.figures t e.price e.baseline e.event_load ≡ true =
-    subst (λ (x : Event). settleable m.figures t x.price x.baseline x.event_load ≡ true) (sym c.event-item.is) (c.requires.each i e c.loop-event_test.true) in
+    subst (λ (x : Event). settleable m.figures t x.price x.baseline x.event_load ≡ true) (sym c.event-item.is) (c.requires.each i e c.loop-event-test.true) in
     let most : Amounts c.event-credit.result =
     subst Amounts (sym c.event-credit.ensures) (g.met.P.Programme.lawful.event t e.price e.late e.baseline e.event_load can) in
-    let step = sum_step es i e c.loop-event_test.true c.event-item.is in (
+    let step = sum_step es i e c.loop-event-test.true c.event-item.is in (
       step (λ x. (amounts m t x).0) _ _ inv.0 (ap (λ (a : ℕ × ℕ × ℕ). a.0) c.event-credit.ensures),
       step (λ x. (amounts m t x).1) _ _ inv.1 (ap (λ (a : ℕ × ℕ × ℕ). a.1) c.event-credit.ensures),
       step (λ x. (amounts m t x).2) _ _ inv.2 (ap (λ (a : ℕ × ℕ × ℕ). a.2) c.event-credit.ensures),
@@ -34,7 +34,7 @@ returns g c =
     let t = c.args.terms in
     let es = c.args.events.now in
     let inv = c.loop-event.invariant in
-    let whole = take_all c.loop-event.event-index es c.loop-event_test.false in
+    let whole = take_all c.loop-event.event-index es c.loop-event-test.false in
     let credits : c.loop-event.credits ≡ sum_by (λ x. (amounts m t x).0) es = inv.0 ∙ ap (λ (xs : List Event). sum_by (λ x. (amounts m t x).0) xs) whole in
     let surcharges : c.loop-event.surcharges ≡ sum_by (λ x. (amounts m t x).1) es = inv.1 ∙ ap (λ (xs : List Event). sum_by (λ x. (amounts m t x).1) xs) whole in
     let missed : c.loop-event.missed ≡ sum_by (λ x. (amounts m t x).2) es = inv.2 ∙ ap (λ (xs : List Event). sum_by (λ x. (amounts m t x).2) xs) whole in
