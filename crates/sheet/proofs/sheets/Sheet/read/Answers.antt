@@ -5,8 +5,8 @@ use Rattle.sheet.specs.Sheets.{FallsIn}
 use Rattle.sheet.proofs.Lines.{below_next, below_push, rising_push}
 use Rattle.sheet.proofs.sheets.Sheet.read.Goals as goal
 
-pub loop-line-preserved-in-Continue·-branch-3 : goal.loop-line-preserved-in-Continue·-branch-3
-loop-line-preserved-in-Continue·-branch-3 c =
+pub loop-line-preserved-in-Continue-branch-3 : goal.loop-line-preserved-in-Continue-branch-3
+loop-line-preserved-in-Continue-branch-3 c =
     let inv = c.loop-line.invariant in
     let lines : vec_items c.push-in-Some-found.new.self ≡ vec_items c.loop-line.lines ++ ((c.loop-line.number + 1) ∷ []) = c.in_ok-push-2.ensures.items in
     let events : vec_items c.push.new.self ≡ vec_items c.loop-line.events ++ (c.in-Some-found.event ∷ []) = c.in_ok-push.ensures.items in
