@@ -1,7 +1,7 @@
 -- Where the point of a decimal number stands, how large the number of some digits is, and that a refused text writes no number.
-use Rattle.std.proofs.Common.{◌≡◌, ℕ, suc, ◌+◌, ◌-◌, ◌*◌, ◌^◌, ◌<◌, ◌≤◌, ◌⊎◌, List, [], ◌∷◌, ◌++◌, length, get_or, take, drop, fold, sym, refl, ap, ◌∙◌, subst, inl, inr, arith, length-append, length-drop, length-take, rules}
+use Rattle.std.proofs.Common.{◌≡◌, ℕ, suc, ◌+◌, ◌-◌, ◌*◌, ◌^◌, ◌<◌, ◌≤◌, List, ◌∷◌, ◌++◌, length, get_or, take, drop, fold, sym, refl, ap, ◌∙◌, subst, inl, inr, arith, length-append, length-drop, length-take, rules}
 use native.Mathlib.Nat.{sub-zero}
-use Rattle.std.proofs.lemmas.List.{get_or_at, get_or_append_left, take-append-le, drop-append-le, get_or-take, get_or-drop, drop_more, take-append-drop, take_all, append_cancel_left}
+use Rattle.std.proofs.lemmas.List.{get_or_at, get_or_append_left, take-append-le, get_or-take, drop_more, take-append-drop, take_all, append_cancel_left}
 use Rattle.std.proofs.lemmas.Str.Parse.{IsNumeralModel, numerals_by_fold, tells_by_index, digits_value_short}
 use Rattle.decimals.specs.Numerals.{Decimal, Digits, Numeral, Refused, Spells, value}
 use Rattle.decimals.specs.declared.kinds.Misread.{Misread}

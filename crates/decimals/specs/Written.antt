@@ -1,5 +1,5 @@
 -- How numbers are written for people: with a point before the last places, or with a comma before each three digits.
-use Rattle.std.specs.Prelude.{ℕ, zero, suc, ◌/◌, ◌%◌, cond, List, [], ◌∷◌, ◌++◌, decimal, nat_lt}
+use Rattle.std.specs.Prelude.{ℕ, zero, suc, ◌/◌, ◌%◌, cond, List, ◌∷◌, ◌++◌, decimal, nat_lt}
 use Rattle.decimals.specs.declared.kinds.Places.{Places}
 use Rattle.decimals.specs.declared.kinds.Places.TheVariants.{Zero, Two, Three}
 

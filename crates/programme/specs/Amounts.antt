@@ -1,10 +1,10 @@
 -- No amount passes 10^12.
-use Rattle.std.specs.Prelude.{◌≡◌, ℕ, ◌+◌, ◌-◌, ◌*◌, ◌/◌, ◌<◌, ◌≤◌, Bool, true, false, cond, ◌==◌, nat_le, nat_lt, refl}
+use Rattle.std.specs.Prelude.{◌≡◌, ℕ, ◌+◌, ◌-◌, ◌*◌, ◌≤◌, Bool, true, false, cond, ◌==◌, nat_le, nat_lt, refl}
 use Rattle.std.proofs.Common.{mul-le-mul, mul-le-mul_left, mul-add, mul_assoc, mul_comm, le_trans, arith, lit≤, lit<}
 use Rattle.std.proofs.Math.Nat.{div-le_of_le-mul}
 use Rattle.programme.specs.declared.terms.Terms.{Terms}
 use Rattle.programme.specs.Bounds.{lawful_terms, quarters}
-use Rattle.programme.specs.Formulas.{rounded, saving, rate, economic_credit, economic_event, reliable_credit, reliable_surcharge, missed, reliable_event, reliable_basic}
+use Rattle.programme.specs.Formulas.{rounded, saving, rate, economic_event, missed, reliable_event, reliable_basic}
 use Rattle.programme.specs.Meaning.{Amounts, Lawful}
 use Rattle.programme.specs.Programmes.{economic, joint_bidding, reliable}
 use Rattle.programme.specs.Orders.{InRanges, in_ranges, settled}

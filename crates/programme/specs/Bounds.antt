@@ -1,5 +1,5 @@
 -- Which terms, prices and figures may be settled at all, and which terms a programme lets an account agree on.
-use Rattle.std.specs.Prelude.{ℕ, ◌+◌, ◌*◌, Bool, true, false, ◌&&◌, nat_le, slice_index_or}
+use Rattle.std.specs.Prelude.{ℕ, ◌+◌, ◌*◌, Bool, false, ◌&&◌, nat_le, slice_index_or}
 use Rattle.programme.specs.declared.terms.Terms.{Terms}
 use Rattle.programme.specs.declared.figures.Figures.{Figures}
 use Rattle.programme.specs.declared.figures.Fold.{Fold}

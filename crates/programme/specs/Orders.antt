@@ -1,11 +1,10 @@
 -- The tests of terms, prices and figures as orders of numbers.
-use Rattle.std.specs.Prelude.{◌≡◌, ℕ, ◌*◌, ◌≤◌, Bool, true, false, ◌&&◌, leb}
+use Rattle.std.specs.Prelude.{◌≡◌, ℕ, ◌*◌, ◌≤◌, true}
 use Rattle.std.proofs.Common.{arith}
-use Rattle.std.proofs.lemmas.Bool.{and_left, and_right}
 use Rattle.std.proofs.lemmas.Bool.Decides.{nat_tests}
 use Rattle.programme.specs.declared.terms.Terms.{Terms}
 use Rattle.programme.specs.declared.figures.Figures.{Figures}
-use Rattle.programme.specs.Bounds.{from_readings, lawful_price, lawful_terms, most, quarters, settleable}
+use Rattle.programme.specs.Bounds.{lawful_terms, most, quarters, settleable}
 
 pub record InRanges (t : Terms) : Type 0 where
   pub reduction_high : t.reduction_kw ≤ 200000

@@ -1,5 +1,5 @@
 -- Rounding gives the nearest whole number; and it is monotone, so a bound on what is rounded bounds the result.
-use Rattle.std.specs.Prelude.{◌≡◌, ℕ, ◌+◌, ◌*◌, ◌/◌, ◌%◌, ◌<◌, ◌≤◌}
+use Rattle.std.specs.Prelude.{◌≡◌, ℕ, ◌+◌, ◌*◌, ◌/◌, ◌<◌, ◌≤◌}
 use Rattle.std.proofs.Common.{◌∙◌, div-mul-le_self, le_trans, mul_comm, mul_assoc, mod-lt, arith}
 use Rattle.std.proofs.lemmas.Nat.{div-add-mod', le-div}
 use Rattle.programme.specs.Formulas.{Nearest, rounded}

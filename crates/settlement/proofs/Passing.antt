@@ -1,5 +1,5 @@
 -- What an agreement and an event that pass their checks are known to keep.
-use Rattle.std.proofs.Common.{◌≡◌, ℕ, ◌+◌, ◌*◌, ◌<◌, ◌≤◌, Bool, true, false, cond, not, ◌&&◌, ltb, leb, List, [], ◌∷◌, length, get_or, take, sym, refl, ap, ◌∙◌, subst, mul-le-mul_right, add-one, arith, lit<, lit≤, length-take}
+use Rattle.std.proofs.Common.{◌≡◌, ℕ, ◌+◌, ◌*◌, ◌<◌, ◌≤◌, Bool, true, false, not, List, [], ◌∷◌, length, get_or, take, sym, refl, ap, ◌∙◌, subst, mul-le-mul_right, add-one, arith, lit<, lit≤, length-take}
 use Rattle.std.specs.List.{AllByRecursion as All}
 use Rattle.std.proofs.lemmas.Bool.Decides.{nat_tests}
 use Rattle.programme.specs.Bounds.{allowed_terms, from_readings, lawful_price, lawful_terms, quarters, settleable}

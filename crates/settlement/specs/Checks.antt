@@ -1,5 +1,5 @@
 -- The checks of an agreement and of an event: each has a number, they are made in rising order, and the first that is met refuses.
-use Rattle.std.specs.Prelude.{ℕ, ◌+◌, ◌*◌, Bool, true, false, cond, not, ◌&&◌, ◌||◌, List, [], ◌∷◌, length, ◌==◌, nat_lt}
+use Rattle.std.specs.Prelude.{ℕ, ◌+◌, ◌*◌, Bool, false, cond, not, ◌&&◌, ◌||◌, List, [], ◌∷◌, length, ◌==◌, nat_lt}
 use Rattle.calendar.specs.Months.{calendar_month, month_of}
 use Rattle.calendar.specs.Weekdays.{monday_to_friday, weekday_of}
 use Rattle.programme.specs.Bounds.{allowed_terms, ends_by_midnight, from_readings, in_season, lawful_price, quarters}

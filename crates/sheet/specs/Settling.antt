@@ -1,5 +1,5 @@
 -- What settling a sheet answers.
-use Rattle.std.specs.Prelude.{◌≡◌, ℕ, List, Some, None, Ok, Err, vec_items, Option, Result, slice_index}
+use Rattle.std.specs.Prelude.{◌≡◌, ℕ, Some, None, Ok, Err, vec_items, Option, Result, slice_index}
 use Rattle.settlement.specs.Month.{Settles}
 use Rattle.settlement.specs.declared.events.Refused.{Refused}
 use Rattle.settlement.specs.declared.events.Totals.{Totals}

@@ -1,4 +1,4 @@
-use Rattle.std.proofs.Common.{◌≡◌, ◌+◌, ◌-◌, ◌*◌, [], ◌∷◌, arith}
+use Rattle.std.proofs.Common.{arith}
 use Rattle.calendar.proofs.Reading.{two}
 use Rattle.calendar.proofs.digits.read_two.Goals as goal
 

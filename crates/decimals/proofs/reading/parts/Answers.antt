@@ -1,5 +1,4 @@
 use Rattle.std.proofs.Common.{◌≡◌, ℕ, ◌+◌, ◌-◌, length, take, drop, arith, length-drop, length-take}
-use Rattle.decimals.specs.Numerals.{Decimal, Numeral}
 use Rattle.decimals.proofs.Laws.{at_point, back_is, front_is, no_point, pointed}
 use Rattle.decimals.proofs.reading.parts.Goals as goal
 use Rattle.decimals.proofs.reading.parts.Goals.{else-is_numeral-2-via-then-is_numeral-2+else-is_numeral-3, else-is_numeral-2-via-else-is_numeral-2}

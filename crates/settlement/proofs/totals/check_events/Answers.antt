@@ -1,4 +1,4 @@
-use Rattle.std.proofs.Common.{◌≡◌, ℕ, ◌+◌, ◌≤◌, length, get_or, take, sym, ap, arith, length-take, below_more}
+use Rattle.std.proofs.Common.{◌+◌, ◌≤◌, length, get_or, take, sym, ap, arith, length-take, below_more}
 use Rattle.programme.specs.Programmes.{meaning_of}
 use Rattle.refusal.proofs.Numbers.{numbered}
 use Rattle.refusal.specs.declared.refusals.Answer.{Answer}

@@ -1,5 +1,4 @@
-use Rattle.std.proofs.Common.{◌≡◌, ℕ, ◌<◌, ◌≤◌, get_or, take}
-use Rattle.programme.specs.Programmes.{meaning_of}
+use Rattle.std.proofs.Common.{◌≤◌}
 use Rattle.settlement.specs.Month.{Passed}
 use Rattle.settlement.proofs.totals.check_events.Given as goal
 

@@ -1,4 +1,4 @@
-use Rattle.std.proofs.Common.{◌≡◌, ℕ, ◌+◌, ◌<◌, ◌≤◌, get_or, vec_items, vec_len}
+use Rattle.std.proofs.Common.{◌≡◌, ◌+◌, ◌≤◌, vec_items, vec_len}
 use Rattle.std.specs.List.{AllByRecursion as All}
 use Rattle.sheet.specs.Sheets.{FallsIn, Rising}
 use Rattle.sheet.proofs.sheets.Sheet.read.Given as goal
