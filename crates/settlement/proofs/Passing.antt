@@ -1,6 +1,6 @@
 -- What an agreement and an event that pass their checks are known to keep.
 use Rattle.std.proofs.Common.{◌≡◌, ℕ, ◌+◌, ◌*◌, ◌<◌, ◌≤◌, Bool, true, false, not, List, [], ◌∷◌, length, get_or, take, sym, refl, ap, ◌∙◌, subst, mul-le-mul_right, add-one, arith, lit<, lit≤, length-take}
-use Rattle.std.specs.List.{AllByRecursion as All}
+use Rattle.std.specs.List.{AllByRecursion}
 use Rattle.std.proofs.lemmas.Bool.Decides.{nat_tests}
 use Rattle.programme.specs.Bounds.{allowed_terms, from_readings, lawful_price, lawful_terms, quarters, settleable}
 use Rattle.programme.specs.Programmes.{meaning_of}
@@ -14,11 +14,11 @@ use Rattle.settlement.specs.declared.events.Agreement.{Agreement}
 use Rattle.settlement.specs.declared.events.Event.{Event}
 
 -- where no numbered test is met, each is false
-none_met : (tests : List (Bool × ℕ)) → All (λ test. 0 < test.1) tests → first_met tests ≡ 0 → All (λ test. test.0 ≡ false) tests
+none_met : (tests : List (Bool × ℕ)) → AllByRecursion (λ test. 0 < test.1) tests → first_met tests ≡ 0 → AllByRecursion (λ test. test.0 ≡ false) tests
 none_met [] h e = tt
 none_met ((b, n) ∷ tests) h e = by b refl (λ w. none_met tests h.1 (rw w at e))
   where
-    by : (v : Bool) → b ≡ v → (b ≡ false → All (λ test. test.0 ≡ false) tests) → All (λ test. test.0 ≡ false) ((b, n) ∷ tests)
+    by : (v : Bool) → b ≡ v → (b ≡ false → AllByRecursion (λ test. test.0 ≡ false) tests) → AllByRecursion (λ test. test.0 ≡ false) ((b, n) ∷ tests)
     by true w rest = let z : n ≡ 0 = rw w at e in absurd (omega (arith, h.0))
     by false w rest = (w, rest w)
 

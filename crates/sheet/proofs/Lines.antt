@@ -1,18 +1,18 @@
 -- One line more at the end of rising lines.
 use Rattle.std.proofs.Common.{◌≡◌, ℕ, ◌+◌, ◌<◌, ◌≤◌, ◌⊎◌, List, [], ◌∷◌, ◌++◌, length, get_or, inl, inr, arith, length-append}
 use Rattle.std.proofs.lemmas.Bool.{cases_lt}
-use Rattle.std.specs.List.{AllByRecursion as All}
+use Rattle.std.specs.List.{AllByRecursion}
 use Rattle.std.proofs.ByRecursion.{All-get_or, All-push, All-weaker}
 use Rattle.std.proofs.lemmas.List.{get_or_append_left, get_or_push}
 use Rattle.sheet.specs.Sheets.{Rising}
 
-pub below_next : (xs : List ℕ) (n : ℕ) → All (λ x. x ≤ n) xs → All (λ x. x ≤ n + 1) xs
+pub below_next : (xs : List ℕ) (n : ℕ) → AllByRecursion (λ x. x ≤ n) xs → AllByRecursion (λ x. x ≤ n + 1) xs
 below_next xs n h = All-weaker (λ x. x ≤ n) (λ x. x ≤ n + 1) (λ x p. omega arith) xs h
 
-pub below_push : (xs : List ℕ) (n : ℕ) → All (λ x. x ≤ n) xs → All (λ x. x ≤ n + 1) (xs ++ ((n + 1) ∷ []))
+pub below_push : (xs : List ℕ) (n : ℕ) → AllByRecursion (λ x. x ≤ n) xs → AllByRecursion (λ x. x ≤ n + 1) (xs ++ ((n + 1) ∷ []))
 below_push xs n h = All-push (λ x. x ≤ n + 1) xs (n + 1) (below_next xs n h) (omega arith)
 
-pub rising_push : (xs : List ℕ) (n : ℕ) → Rising xs → All (λ x. x ≤ n) xs → Rising (xs ++ ((n + 1) ∷ []))
+pub rising_push : (xs : List ℕ) (n : ℕ) → Rising xs → AllByRecursion (λ x. x ≤ n) xs → Rising (xs ++ ((n + 1) ∷ []))
 rising_push xs n up low i j less within = by (cases_lt j (length xs))
   where
     long : length (xs ++ ((n + 1) ∷ [])) ≡ length xs + 1

@@ -1,6 +1,6 @@
 -- What an accepted sheet promises.
 use Rattle.std.specs.Prelude.{◌≡◌, ℕ, ◌<◌, List, length, vec_items, vec_len, slice_index}
-use Rattle.std.specs.List.{AllByRecursion as All}
+use Rattle.std.specs.List.{AllByRecursion}
 use Rattle.calendar.specs.Months.{month_of}
 use Rattle.settlement.specs.declared.events.Event.{Event}
 use Rattle.sheet_values.specs.declared.headers.Header.{Header}
@@ -18,4 +18,4 @@ Rising xs = (i j : ℕ) → i < j → j < length xs → slice_index xs i < slice
 pub record Sound (s : Sheet) : Type 0 where
   pub placed : vec_len s.lines ≡ vec_len s.events
   pub rising : Rising (vec_items s.lines)
-  pub in_month : All (FallsIn s.header) (vec_items s.events)
+  pub in_month : AllByRecursion (FallsIn s.header) (vec_items s.events)

@@ -1,5 +1,5 @@
 use Rattle.std.proofs.Common.{◌≡◌, ◌+◌, ◌≤◌, vec_items, vec_len}
-use Rattle.std.specs.List.{AllByRecursion as All}
+use Rattle.std.specs.List.{AllByRecursion}
 use Rattle.sheet.specs.Sheets.{FallsIn, Rising}
 use Rattle.sheet.proofs.sheets.Sheet.read.Given as goal
 
@@ -11,5 +11,5 @@ invariant-loop-line l =
     × (l.number + (goal.iterator-loop-line).remaining l.line-iterator ≤ (goal.iterator-loop-line).remaining l.initial.line-iterator)
     × (vec_len l.lines ≡ vec_len l.events)
     × Rising (vec_items l.lines)
-    × All (λ x. x ≤ l.number) (vec_items l.lines)
-    × All (FallsIn l.header) (vec_items l.events)
+    × AllByRecursion (λ x. x ≤ l.number) (vec_items l.lines)
+    × AllByRecursion (FallsIn l.header) (vec_items l.events)
