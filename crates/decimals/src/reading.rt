@@ -1,7 +1,7 @@
 // Reading a decimal number.
 
 ghost use Rattle.std.specs.Prelude.{◌≡◌, ℕ, ◌+◌, ◌^◌, ◌<◌, ◌≤◌, List, length, IfSome, Decides, MatchOption, MatchResult, OnErr, ◌≢◌, slice_index};
-ghost use Rattle.decimals.specs.Numerals.{Decimal, Digits, Numeral, places_of, Refused, Spells, value as value_of_lem};
+ghost use Rattle.decimals.specs.Numerals.{Decimal, Digits, Numeral, places_of, Refused, Spells, value as value_of};
 
 use crate::kinds::{Misread, Places};
 
@@ -70,7 +70,7 @@ fn parts(text: &[u8]) -> Option<(&[u8], &[u8])>
 fn value(digits: &[u8]) -> u64
     requires all { Digits digits.now }
     requires few { length digits.now ≤ 15 }
-    ensures is { result ≡ value_of_lem digits.now }
+    ensures is { result ≡ value_of digits.now }
     ensures small { result < 1000000000000000 }
 {
     let mut value = 0;

@@ -1,12 +1,12 @@
 // A refusal's number and places.
 
 ghost use Rattle.std.specs.Prelude.{◌≡◌};
-ghost use Rattle.refusal.specs.Answers.{answer_of, at_byte, on_day, plain as plain_of_lem};
+ghost use Rattle.refusal.specs.Answers.{answer_of, at_byte, on_day, plain as plain_of};
 
 use crate::refusals::{Answer, Refusal};
 
 fn plain(number: u8) -> Answer
-    ensures { result ≡ plain_of_lem number }
+    ensures { result ≡ plain_of number }
 {
     Answer {
         number,
