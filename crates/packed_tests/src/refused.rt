@@ -29,8 +29,8 @@ const SPOILT: [(usize, u8, u8, usize); 14] = [
     // no bit stands
     (37, 0, 32, 23),
     (45, 0, 32, 42),
-    // one bit more, so that the readings take in what follows or pass the end
-    (36, 1, 29, 46),
+    // one bit more: the next record would begin in the map of the one that does, before it in order; or the readings pass the end
+    (36, 1, 31, 46),
     (46, 1, 33, 42),
     // one watt above the limit, and far above it
     (22, 1, 34, 0),
