@@ -17,7 +17,7 @@ pub first_day_0 : first_day 0 ≡ 0
 unfolding first_day
 first_day_0 = refl
 
--- the rule of `first-day` at m + 1, as clauses have it
+-- the rule of `first_day` at m + 1, as clauses have it
 pub first_day_step : (m : ℕ) → first_day (m + 1) ≡ first_day m + month_length m
 unfolding first_day
 first_day_step m = ap first_day (add-one m)
