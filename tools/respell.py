@@ -3,8 +3,9 @@
 
 usage: python3 tools/respell.py [--report]     at the top of the repository, on files that the kit's port.py has turned
 
-Definitions, lemmas, fields and helper lemmas of specs/ and proofs/ become snake case, types become camel case.
-Names of the library, of goals and of the code keep their spelling, and so does everything in comments and strings.
+Definitions, lemmas, fields and helper lemmas of specs/ and proofs/ become snake case, types become camel case; getD in a name
+becomes get_or, as in the library. Names of the library, of goals and of the code keep their spelling, and so does everything in
+comments and strings. README.md and docs/, but for docs/PORT.md, get the new spelling of the names that they quote.
 With --report nothing is written: the renamings are listed, and each new name that stands in the files already.
 """
 
@@ -18,7 +19,7 @@ TYPE = re.compile(r"^\s*(?:(?:pub|abbrev|unfoldable)\s+)*(?:record|data)\s+([^\s
 BOUND = re.compile(r"(?<![^\s(])let ([^\s(){}\[\],;.:\"]+)\s*[:=]")
 IMPORT = re.compile(r"^\s*(?:pub )?(?:ghost )?use ([^\s{]+)\.\{([^}]*)\}", re.M)
 GENERATED = re.compile(r"^\s*(?:ghost )?use Rattle\.\w+\.proofs\.[^\s{]*\.(?:Goals|Given)\.\{([^}]*)\}", re.M)
-# names that would be the name of something else
+# chosen by hand: two whose plain respelling is taken, and a variable that is declared nowhere
 CHOSEN = {"No-number": "IsNoNumber", "bool-byte": "byte_of_bool", "figure-of": "figure_of"}
 TICKED = re.compile(r"`([^`\s]+)`")
 
@@ -114,7 +115,7 @@ def turn_pages(table, own):
     """The names that README and docs/ quote."""
     known = set(table.values()) | own
     changed = 0
-    for path in sorted(glob.glob("docs/*.md")) + ["README.md"]:
+    for path in sorted(set(glob.glob("docs/*.md")) - {"docs/PORT.md"}) + ["README.md"]:
         text = read(path)
 
         def quoted(m):
