@@ -68,25 +68,6 @@ month_inside m h = omega (arith, first_day_step m, first_day_rises (m + 1) 360 (
 pub month_of_most : (d : ℕ) → d ≤ 10957 → month_of d ≤ 359
 month_of_most d h = not_after (month_of d) 359 d (in_month d).0 (omega (arith, first_day_360))
 
--- all that is known of the month of a day
-pub record Placed (m d : ℕ) : Type 0 where
-  pub value : m ≡ month_of d
-  pub within : m ≤ 359
-  pub begun : first_day m ≤ d
-  pub ahead : d < first_day (m + 1)
-  pub inside : d < first_day m + month_length m
-
-pub placed : (m d : ℕ) → d ≤ 10957 → m ≡ month_of d → Placed m d
-placed m d small e =
-    let ahead : d < first_day (m + 1) = omega (arith, (in_month d).1, ap (λ (n : ℕ). first_day (n + 1)) e) in
-    record {
-      value = e;
-      within = omega (arith, month_of_most d small);
-      begun = omega (arith, (in_month d).0, ap first_day e);
-      ahead = ahead;
-      inside = omega (arith, first_day_step m);
-    }
-
 -- the day's place in its month
 pub day_of_month_range : (d : ℕ) → (1 ≤ day_of_month d) × (day_of_month d ≤ month_length (month_of d))
 day_of_month_range d = (omega arith, omega (arith, (in_month d).0, (in_month d).1, first_day_step (month_of d)))

@@ -1,12 +1,11 @@
 -- A table of first days: its rule is one test over the whole table, carried here to each entry.
-use Rattle.std.proofs.Common.{◌≡◌, ℕ, zero, suc, ◌+◌, ◌-◌, ◌<◌, ◌≤◌, true, eqb, List, [], ◌∷◌, length, get_or, Ok, Err, Result, sym, ap, ◌∙◌, inl, inr, le_of_suc-le-suc, not-suc-le-zero, add-zero, add-suc, suc-add, zero-add, arith, eqb-true, MatchResult}
-use Rattle.std.proofs.lemmas.List.Sorted.{searched}
-use Rattle.std.proofs.lemmas.Bool.{and_parts}
+use Rattle.std.proofs.Common.{◌≡◌, ℕ, zero, suc, ◌+◌, ◌-◌, ◌<◌, ◌≤◌, true, false, eqb, leb, List, [], ◌∷◌, length, get_or, sym, ap, ◌∙◌, inl, inr, le_of_suc-le-suc, not-suc-le-zero, add-zero, add-suc, suc-add, zero-add, arith, eqb-true, leb-true}
+use Rattle.std.proofs.lemmas.List.Sorted.{IsNonDecreasingBy-from_default, IsPartitionedBy-leb}
+use Rattle.std.proofs.lemmas.Bool.{and_parts, leb-false}
 use Rattle.std.proofs.lemmas.Bool.Decides.{leb_tells}
-use Rattle.std.specs.List.Sorted.{IsBinarySearchResult}
+use Rattle.std.specs.List.Sorted.{IsPartitionedBy, IsPartitionPoint}
 use Rattle.calendar.specs.Months.{month_length, first_day, month_of, steps, ruled}
-use Rattle.calendar.proofs.Laws.{month_length_range, first_day_0, first_day_360, first_day_step, first_day_rises, only_month}
-use Rattle.std.specs.Ordering.{nat_cmp}
+use Rattle.calendar.proofs.Laws.{first_day_0, first_day_360, first_day_step, first_day_rises, only_month}
 
 from : (ys : List ℕ) (i x : ℕ) → x ≡ first_day i → steps i x ys ≡ true → (k : ℕ) → k < length (x ∷ ys) → get_or (x ∷ ys) k 0 ≡ first_day (i + k)
 unfolding first_day
@@ -24,24 +23,29 @@ entry (x ∷ later) t k h =
     let parts = and_parts (eqb x 0) (steps 0 x later) t in
     from later 0 x (eqb-true x 0 parts.0) parts.1 k h ∙ ap first_day (zero-add k)
 
-pub table_rises : (table : List ℕ) → ruled table ≡ true → (i j : ℕ) → i ≤ j → j < length table → get_or table i 0 ≤ get_or table j 0
-table_rises table t i j h l = omega (arith, entry table t i (omega arith), entry table t j l, first_day_rises i j h)
+-- the first days rise, so that a day parts the months that have begun from the others
+pub parted : (table : List ℕ) → ruled table ≡ true → (day : ℕ) → IsPartitionedBy (λ y. leb y day) table
+parted table t day = IsPartitionedBy-leb (λ y. y) table day (IsNonDecreasingBy-from_default (λ y. y) table 0 (λ i j h l.
+    omega (arith, entry table t i (omega arith), entry table t j l, first_day_rises i j h)))
 
--- what a binary search of the table says of the month of a day
-pub found : (table : List ℕ) → ruled table ≡ true → length table ≡ 360 → (day : ℕ) → day ≤ 10957 → (r : Result ℕ ℕ) → IsBinarySearchResult (λ y. nat_cmp y day) table r → MatchResult r (λ month. month ≡ month_of day) (λ next. (1 ≤ next) × (next - 1 ≡ month_of day))
-found table t n day small (Ok month) h =
-    let s = searched table day (Ok month) h (table_rises table t) in
-    only_month month day (omega (arith, entry table t month s.0, s.1)) (omega (arith, entry table t month s.0, s.1, first_day_step month, month_length_range month))
-found table t n day small (Err next) h =
-    let s = searched table day (Err next) h (table_rises table t) in
-    let some : 1 ≤ next = elim (leb_tells 1 next) [
+-- what is known of the month of a day, where n months have begun
+pub record Begun (n day : ℕ) : Type 0 where
+  pub some : 1 ≤ n
+  pub value : n - 1 ≡ month_of day
+  pub begun : first_day (n - 1) ≤ day
+  pub ahead : day < first_day (n - 1 + 1)
+  pub inside : day < first_day (n - 1) + month_length (n - 1)
+
+pub begun : (table : List ℕ) → ruled table ≡ true → length table ≡ 360 → (day : ℕ) → day ≤ 10957 → (n : ℕ) → n ≤ length table → IsPartitionPoint (λ y. leb y day ≡ true) (λ y. leb y day ≡ false) table n → Begun n day
+begun table t c day small n most point =
+    let some : 1 ≤ n = elim (leb_tells 1 n) [
       | inl y ↦ y.1
-      | inr f ↦ absurd (omega (arith, s.2 0 (omega (arith, f.1)) (omega (arith, n)), entry table t 0 (omega (arith, n)), first_day_0))
+      | inr f ↦ absurd (omega (arith, leb-false _ _ (point.1 0 0 (omega (arith, f.1)) (omega (arith, c))), entry table t 0 (omega (arith, c)), first_day_0))
     ] in
-    let begun : first_day (next - 1) ≤ day = omega (arith, s.1 (next - 1) (omega arith), entry table t (next - 1) (omega (arith, n, s.0))) in
-    let same : first_day (next - 1 + 1) ≡ first_day next = ap first_day (omega arith) in
-    let ahead : day < first_day (next - 1 + 1) = elim (leb_tells 360 next) [
-      | inl y ↦ let e : next ≡ 360 = omega (arith, n, s.0, y.1) in omega (arith, same, ap first_day e, first_day_360)
-      | inr f ↦ omega (arith, same, s.2 next (omega arith) (omega (arith, n, f.1)), entry table t next (omega (arith, n, f.1)))
+    let low : first_day (n - 1) ≤ day = omega (arith, leb-true _ _ (point.0 (n - 1) 0 (omega arith) (omega arith)), entry table t (n - 1) (omega arith)) in
+    let same : first_day (n - 1 + 1) ≡ first_day n = ap first_day (omega arith) in
+    let high : day < first_day (n - 1 + 1) = elim (leb_tells 360 n) [
+      | inl y ↦ let e : n ≡ 360 = omega (arith, c, y.1) in omega (arith, same, ap first_day e, first_day_360)
+      | inr f ↦ omega (arith, same, leb-false _ _ (point.1 n 0 (omega arith) (omega (arith, c, f.1))), entry table t n (omega (arith, c, f.1)))
     ] in
-    (some, only_month (next - 1) day begun ahead)
+    record { some = some; value = only_month (n - 1) day low high; begun = low; ahead = high; inside = omega (arith, first_day_step (n - 1)) }

@@ -6,10 +6,11 @@ ghost use Rattle.calendar.specs.Weekdays.{weekday_number, weekday_of};
 ghost use Rattle.std.specs.Option.{option_map};
 
 use super::digits::{ascii, read_two, two_digits};
-use super::months::{Month, month_at};
+use super::months::{Month, first_days};
 use super::weekdays::Weekday;
 use std::fmt;
 
+// `Day`, `Month` and `Quarter` are three types, since one `UpTo<LAST>` would call a day `UpTo<10957>` in each signature and message.
 #[derive(Clone, Copy, PartialEq, Eq, Debug)]
 pub struct Day {
     pub(crate) number: u16,
@@ -19,6 +20,7 @@ pub struct Day {
 impl Day {
     pub const LAST: u16 = 10957;
 
+    // None, as of `NonZero::new`: the error type of a `TryFrom`, or of a `FromStr` for `read`, would say no more.
     pub fn new(number: u16) -> Option<Day>
         ensures { option_map (λ d. d.number) result ≡ (if nat_le number 10957 then Some number else None) }
     {
@@ -41,15 +43,16 @@ impl Day {
         Weekday::of(self.number)
     }
 
-    // The month whose days include this one.
+    // The month whose days include this one: the last that begins on it or before.
     pub fn month(self) -> Month
         ensures value { result.number ≡ month_of self.number }
         ensures begun { first_day result.number ≤ self.number }
         ensures ahead { self.number < first_day (result.number + 1) }
         ensures inside { self.number < first_day result.number + month_length result.number }
     {
+        let begun = first_days().partition_point(|first| *first <= self.number);
         Month {
-            number: month_at(self.number),
+            number: begun as u16 - 1,
         }
     }
 
@@ -76,12 +79,12 @@ impl Day {
     pub fn read(text: &[u8]) -> Option<Day>
         ensures { Reads date_text 10957 text.now (option_map (λ d. d.number) result) }
     {
-        let [_, _, _, _, _, _, _, b'-', tens, ones] = text else {
+        let [month @ .., b'-', tens, ones] = text else {
             return None;
         };
-        let month = Month::read(&text[0..7])?;
+        let month = Month::read(month)?;
         let day = u16::from(read_two(*tens, *ones)?);
-        if 1 <= day && day <= month.length() {
+        if (1..=month.length()).contains(&day) {
             Some(Day {
                 number: month.first_day().number + day - 1,
             })

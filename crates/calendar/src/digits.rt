@@ -20,6 +20,7 @@ pub(crate) fn read_two(tens: u8, ones: u8) -> Option<u8>
     }
 }
 
+#[tactic(auto, using(crate::proofs::Reading::four))]
 pub(crate) fn read_four(thousands: u8, hundreds: u8, tens: u8, ones: u8) -> Option<u16>
     ensures { Reads four_digits 9999 (thousands ∷ hundreds ∷ tens ∷ ones ∷ []) result }
 {
@@ -33,8 +34,5 @@ pub(crate) fn ascii(bytes: &[u8]) -> &str
     requires { IsAscii bytes.now }
     ensures { result.now ≡ bytes.now }
 {
-    match from_utf8(bytes) {
-        Ok(text) => text,
-        Err(_) => unreachable(),
-    }
+    from_utf8(bytes).unwrap()
 }

@@ -1,6 +1,6 @@
 // The months from January 2015, month 0, to December 2044, month 359.
-ghost use Rattle.std.specs.Prelude.{◌≡◌, ◌+◌, ◌<◌, ◌≤◌, true, length, if◌then◌else◌, Some, None, IsAscii, nat_le};
-ghost use Rattle.calendar.specs.Months.{leap, year_of, calendar_month, month_length, first_day, month_of, ruled};
+ghost use Rattle.std.specs.Prelude.{◌≡◌, ◌+◌, ◌≤◌, true, length, if◌then◌else◌, Some, None, IsAscii, nat_le};
+ghost use Rattle.calendar.specs.Months.{leap, year_of, calendar_month, month_length, first_day, ruled};
 ghost use Rattle.calendar.specs.Texts.{Reads, month_text};
 ghost use Rattle.std.specs.Option.{option_map};
 
@@ -42,36 +42,11 @@ pub struct Month {
 }
 
 // The table, which passes the test of its rule.
-fn first_days() -> &'static [u16; 360]
+pub(crate) fn first_days() -> &'static [u16; 360]
     ensures rule { ruled result.now ≡ true }
     ensures count { length result.now ≡ 360 }
 {
     &FIRST_DAYS
-}
-
-// The first day of a month; all its days are in the calendar.
-fn first_day_of(month: u16) -> u16
-    requires { month ≤ 359 }
-    ensures value { result ≡ first_day month }
-    ensures within { result ≤ 10957 }
-    ensures inside { result + month_length month ≤ 10958 }
-{
-    first_days()[month as usize]
-}
-
-// The month whose days include this day: the last that begins on it or before.
-pub(crate) fn month_at(day: u16) -> u16
-    requires { day ≤ 10957 }
-    ensures value { result ≡ month_of day }
-    ensures within { result ≤ 359 }
-    ensures begun { first_day result ≤ day }
-    ensures ahead { day < first_day (result + 1) }
-    ensures inside { day < first_day result + month_length result }
-{
-    match first_days().binary_search(&day) {
-        Ok(month) => month as u16,
-        Err(next) => next as u16 - 1,
-    }
 }
 
 fn is_leap(year: u16) -> bool
@@ -125,12 +100,13 @@ impl Month {
     }
 
     // The first of its days, all of which are in the calendar.
+    #[tactic(auto, using(crate::proofs::Table::entry, crate::proofs::Laws::month_inside, crate::proofs::Laws::month_length_range))]
     pub fn first_day(self) -> Day
         ensures value { result.number ≡ first_day self.number }
         ensures inside { result.number + month_length self.number ≤ 10958 }
     {
         Day {
-            number: first_day_of(self.number),
+            number: first_days()[usize::from(self.number)],
         }
     }
 
@@ -150,11 +126,11 @@ impl Month {
     pub fn read(text: &[u8]) -> Option<Month>
         ensures { Reads month_text 359 text.now (option_map (λ m. m.number) result) }
     {
-        let [a, b, c, d, b'-', e, f] = text else {
+        let &[a, b, c, d, b'-', e, f] = text else {
             return None;
         };
-        let year = read_four(*a, *b, *c, *d)?;
-        let month = read_two(*e, *f)?;
+        let year = read_four(a, b, c, d)?;
+        let month = read_two(e, f)?;
         match (year, month) {
             (2015..=2044, 1..=12) => Some(Month {
                 number: 12 * (year - 2015) + u16::from(month) - 1,

@@ -46,11 +46,11 @@ impl Quarter {
     pub fn read(text: &[u8]) -> Option<Quarter>
         ensures { Reads time_text 95 text.now (option_map (λ q. q.number) result) }
     {
-        let [a, b, b':', c, d] = text else {
+        let &[a, b, b':', c, d] = text else {
             return None;
         };
-        let hour = read_two(*a, *b)?;
-        let minute = read_two(*c, *d)?;
+        let hour = read_two(a, b)?;
+        let minute = read_two(c, d)?;
         if hour < 24 && minute < 60 && minute % 15 == 0 {
             Some(Quarter {
                 number: 4 * hour + minute / 15,

@@ -32,9 +32,6 @@ impl Weekday {
     pub fn is_monday_to_friday(self) -> bool
         ensures { result ≡ monday_to_friday (weekday_number self) }
     {
-        match self {
-            Weekday::Saturday | Weekday::Sunday => false,
-            _ => true,
-        }
+        !matches!(self, Weekday::Saturday | Weekday::Sunday)
     }
 }

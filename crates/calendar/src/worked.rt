@@ -7,13 +7,9 @@ use super::days::Day;
 use super::months::Month;
 use super::weekdays::Weekday;
 
-// The definitions give the worked figures.
-fn defined()
-    ensures { CalendarFacts }
-{}
-
 // The definitions give the worked figures, and so does the code:
 // the first day of March 2016, the length of February 2016, the month of day 10957 and the weekday of day 1000.
+#[tactic(auto, using(crate::proofs::Facts::calendar_facts))]
 pub fn calendar_facts() -> (Day, u16, Month, Weekday)
     ensures figures { CalendarFacts }
     ensures march { result.0.number ≡ 425 }
@@ -21,7 +17,6 @@ pub fn calendar_facts() -> (Day, u16, Month, Weekday)
     ensures last { result.2.number ≡ 359 }
     ensures wednesday { weekday_number result.3 ≡ 3 }
 {
-    defined();
     let march = Month { number: 14 };
     let february = Month { number: 13 };
     let last = Day { number: 10957 };

@@ -2,18 +2,15 @@ use calendar::{Day, Moment, Month, Quarter, Weekday};
 use std::test::Fail;
 
 fn day(text: &str) -> Option<u16> {
-    let day = Day::read(text.as_bytes())?;
-    Some(day.number())
+    Day::read(text.as_bytes()).map(|day| day.number())
 }
 
 fn month(text: &str) -> Option<u16> {
-    let month = Month::read(text.as_bytes())?;
-    Some(month.number())
+    Month::read(text.as_bytes()).map(|month| month.number())
 }
 
 fn quarter(text: &str) -> Option<u8> {
-    let quarter = Quarter::read(text.as_bytes())?;
-    Some(quarter.number())
+    Quarter::read(text.as_bytes()).map(|quarter| quarter.number())
 }
 
 #[test]
@@ -66,9 +63,7 @@ fn other_texts_are_no_dates(rt: HostRuntime) {
 fn leap_days(rt: HostRuntime) -> Result<(), Fail> {
     for year in 2015..2045u16 {
         let number = 12 * (year - 2015) + 1;
-        let Some(february) = Month::new(number) else {
-            return Err(Fail::new("no such month"));
-        };
+        let february = Month::new(number).ok_or_else(|| Fail::new("no such month"))?;
         let last = if year % 4 == 0 { 29 } else { 28 };
         assert_eq!(rt; february.length(), last, "{}", year);
 
@@ -82,15 +77,11 @@ fn leap_days(rt: HostRuntime) -> Result<(), Fail> {
 #[test]
 fn every_day_is_read_back(rt: HostRuntime) -> Result<(), Fail> {
     for number in 0..10958u16 {
-        let Some(day) = Day::new(number) else {
-            return Err(Fail::new("no such day"));
-        };
-        let Some(read) = Day::read(&day.text()) else {
-            return Err(Fail::new("not read back"));
-        };
-        assert_eq!(rt; read.number(), number);
+        let day = Day::new(number).ok_or_else(|| Fail::new("no such day"))?;
+        let read = Day::read(&day.text()).map(|read| read.number());
+        assert_eq!(rt; read, Some(number));
     }
-    assert!(rt; Day::new(10958).is_none());
+    assert_eq!(rt; Day::new(10958), None);
     Ok(())
 }
 
@@ -99,13 +90,9 @@ fn every_day_is_read_back(rt: HostRuntime) -> Result<(), Fail> {
 fn every_month_is_read_back(rt: HostRuntime) -> Result<(), Fail> {
     let mut next = 0u16;
     for number in 0..360u16 {
-        let Some(month) = Month::new(number) else {
-            return Err(Fail::new("no such month"));
-        };
-        let Some(read) = Month::read(&month.text()) else {
-            return Err(Fail::new("not read back"));
-        };
-        assert_eq!(rt; read.number(), number);
+        let month = Month::new(number).ok_or_else(|| Fail::new("no such month"))?;
+        let read = Month::read(&month.text()).map(|read| read.number());
+        assert_eq!(rt; read, Some(number));
 
         assert_eq!(rt; month.first_day().number(), next, "{}", number);
         assert_eq!(rt; month.first_day().month().number(), number);
@@ -114,7 +101,7 @@ fn every_month_is_read_back(rt: HostRuntime) -> Result<(), Fail> {
         next = next.saturating_add(month.length());
     }
     assert_eq!(rt; next, 10958);
-    assert!(rt; Month::new(360).is_none());
+    assert_eq!(rt; Month::new(360), None);
     Ok(())
 }
 
@@ -133,15 +120,11 @@ fn months_are_read(rt: HostRuntime) {
 #[test]
 fn every_quarter_is_read_back(rt: HostRuntime) -> Result<(), Fail> {
     for number in 0..96u8 {
-        let Some(quarter) = Quarter::new(number) else {
-            return Err(Fail::new("no such quarter"));
-        };
-        let Some(read) = Quarter::read(&quarter.text()) else {
-            return Err(Fail::new("not read back"));
-        };
-        assert_eq!(rt; read.number(), number);
+        let quarter = Quarter::new(number).ok_or_else(|| Fail::new("no such quarter"))?;
+        let read = Quarter::read(&quarter.text()).map(|read| read.number());
+        assert_eq!(rt; read, Some(number));
     }
-    assert!(rt; Quarter::new(96).is_none());
+    assert_eq!(rt; Quarter::new(96), None);
     Ok(())
 }
 
@@ -164,13 +147,8 @@ fn weekdays(rt: HostRuntime) {
     assert_eq!(rt; Weekday::of(1000), Weekday::Wednesday);
     assert_eq!(rt; Weekday::of(u16::MAX), Weekday::Friday);
     let week = [true, true, false, false, true, true, true];
-    for (number, works) in week.iter().enumerate() {
-        assert_eq!(rt;
-            Weekday::of(number as u16).is_monday_to_friday(),
-            *works,
-            "{}",
-            number
-        );
+    for (day, works) in (0..7u16).zip(week) {
+        assert_eq!(rt; Weekday::of(day).is_monday_to_friday(), works, "{}", day);
     }
 }
 
@@ -208,12 +186,8 @@ fn moments(rt: HostRuntime) {
 
 #[test]
 fn days_are_shown(rt: HostRuntime) -> Result<(), Fail> {
-    let Some(day) = Day::new(4053) else {
-        return Err(Fail::new("no such day"));
-    };
-    let Some(quarter) = Quarter::new(64) else {
-        return Err(Fail::new("no such quarter"));
-    };
+    let day = Day::new(4053).ok_or_else(|| Fail::new("no such day"))?;
+    let quarter = Quarter::new(64).ok_or_else(|| Fail::new("no such quarter"))?;
     let text = format!(in rt.alloc(); "{day} {quarter}")?;
     assert_eq!(rt; text.as_str(), "2026-02-05 16:00");
     let wide = format!(in rt.alloc(); "{day:>12}")?;

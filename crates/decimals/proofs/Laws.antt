@@ -1,6 +1,10 @@
 -- Where the point of a decimal number stands, how large the number of some digits is, and that a refused text writes no number.
-use Rattle.std.proofs.Common.{◌≡◌, ℕ, suc, ◌+◌, ◌-◌, ◌*◌, ◌^◌, ◌<◌, ◌≤◌, List, ◌∷◌, ◌++◌, length, get_or, take, drop, fold, sym, refl, ap, ◌∙◌, subst, inl, inr, arith, length-append, length-drop, length-take, rules}
-use native.Mathlib.Nat.{sub-zero}
+use Rattle.std.proofs.Common.{◌≡◌, ℕ, suc, ◌+◌, ◌-◌, ◌*◌, ◌^◌, ◌<◌, ◌≤◌, Bool, true, false, List, [], ◌∷◌, ◌++◌, length, get_or, take, drop, map, fold, Bor, Iter, sym, refl, ap, ◌∙◌, subst, inl, inr, append_assoc, arith, length-append, length-drop, length-take, rules}
+use Rattle.std.specs.Bool.{then_some, Decides}
+use Rattle.std.specs.Iterator.{Yields}
+use Rattle.std.specs.Option.{MatchOption}
+use Rattle.std.proofs.lemmas.Fn.{fronts}
+use Rattle.std.proofs.lemmas.List.Sums.{fold_push}
 use Rattle.std.proofs.lemmas.List.{get_or_at, get_or_append_left, take-append-le, get_or-take, drop_more, take-append-drop, take_all, append_cancel_left}
 use Rattle.std.proofs.lemmas.Str.Parse.{IsNumeralModel, numerals_by_fold, tells_by_index, digits_value_short}
 use Rattle.decimals.specs.Numerals.{Decimal, Digits, Numeral, Refused, Spells, value}
@@ -19,11 +23,25 @@ digits_take ds i h d k less =
 pub value_small : (ds : List ℕ) (k : ℕ) → Digits ds → length ds ≤ k → value ds < 10 ^ k
 value_small ds k d short = digits_value_short own ds k d short
 
--- the number of the digits read so far
-pub front_small : (ds : List ℕ) (i : ℕ) → i ≤ length ds → length ds ≤ 15 → Digits ds → value (take i ds) < 1000000000000000
-front_small ds i h few d =
-    let short : length (take i ds) ≤ 15 = omega (arith, length-take i ds) in
-    value_small (take i ds) 15 (digits_take ds i h d) short
+-- what a slice's iterator has given, before what it has left
+pub given : (s t : Iter ℕ) (xs : List (Bor ℕ)) → Yields fronts s xs t → map (λ b. b.now) xs ++ t.rest.now ≡ s.rest.now
+given s t [] e = ap (λ (u : Iter ℕ). u.rest.now) (sym e)
+given s t (x ∷ xs) (j, first, more) = ap (λ (l : List ℕ). x.now ∷ l) (given j t xs more) ∙ sym first
+
+-- one more digit of at most 15
+pub one_more : (ds front rest : List ℕ) (d : ℕ) → front ++ d ∷ rest ≡ ds → Digits ds → length ds ≤ 15 → (48 ≤ d) × (d ≤ 57) × (10 * value front + (d - 48) < 1000000000000000)
+one_more ds front rest d e all few =
+    let more : List ℕ = front ++ d ∷ [] in
+    let whole : more ++ rest ≡ ds = append_assoc front (d ∷ []) rest ∙ e in
+    let within : length more + length rest ≡ length ds = sym (length-append more rest) ∙ ap length whole in
+    let front_long : length more ≡ length front + 1 = length-append front (d ∷ []) in
+    let taken : take (length more) ds ≡ more = ap (λ (l : List ℕ). take (length more) l) (sym whole) ∙ (take-append-le (length more) more rest (omega arith) ∙ take_all (length more) more (omega arith)) in
+    let digits : Digits more = subst Digits taken (digits_take ds (length more) (omega arith) all) in
+    let last : get_or more (length front) 0 ≡ d = get_or_at front d [] 0 (length front) refl in
+    let digit = digits (length front) (omega arith) in
+    let small : value more < 1000000000000000 = value_small more 15 digits (omega arith) in
+    let pushed : value more ≡ 10 * value front + (d - 48) = fold_push (λ n b. 10 * n + (b - 48)) 0 front d in
+    (omega (arith, digit.0), omega (arith, digit.1), omega arith)
 
 -- a number with no point is its own numeral
 pub no_point : (text whole part : List ℕ) → ((k : ℕ) → k < length text → get_or text k 0 ≡ 46 → ⊥) → Decimal text whole part → Numeral text
@@ -56,10 +74,7 @@ joined text at within here =
     let e = drop_more text at 0 within in
     sym (take-append-drop at text) ∙ ap (λ (xs : List ℕ). take at text ++ xs) (e ∙ ap (λ (x : ℕ). x ∷ drop (at + 1) text) here)
 
--- what a slice from the start and one to the end hold
-pub front_is : (text : List ℕ) (at : ℕ) → take (at - 0) text ≡ take at text
-front_is text at = rw sub-zero refl
-
+-- what a slice to the end holds
 pub back_is : (text : List ℕ) (from : ℕ) → take (length text - from) (drop from text) ≡ drop from text
 back_is text from = take_all (length text - from) (drop from text) (omega (arith, length-drop from text))
 
@@ -114,3 +129,12 @@ none_spelt places text TooManyDigits r n s =
     let p = one_way text r.0 r.1 s.whole s.part r.2 s.reads in omega (arith, r.3, s.digits)
 none_spelt places text TooManyDecimals r n s =
     let p = one_way text r.0 r.1 s.whole s.part r.2 s.reads in omega (arith, r.4, s.decimals)
+
+-- what `then_some` answers of a text with no point, and of one that is parted at its first point
+pub unparted : (text : List ℕ) (x : Bor (List ℕ) × Bor (List ℕ)) (b : Bool) → ((k : ℕ) → k < length text → get_or text k 0 ≡ 46 → ⊥) → x.0.now ≡ text → x.1.now ≡ [] → Decides b (Numeral text) → MatchOption (then_some b x) ((whole part : List ℕ) → Decimal text whole part → ⊥) (λ y. Decimal text y.0.now y.1.now)
+unparted text x true none e f d = (subst Numeral (sym e) (d.0 refl), inl (sym e, f))
+unparted text x false none e f d = λ whole part h. absurd (let t = d.1 (no_point text whole part none h) in cc)
+
+pub parted : (text : List ℕ) (at : ℕ) (x : Bor (List ℕ) × Bor (List ℕ)) (b : Bool) → at < length text → get_or text at 0 ≡ 46 → ((k : ℕ) → k < at → get_or text k 0 ≡ 46 → ⊥) → x.0.now ≡ take at text → x.1.now ≡ take (length text - (at + 1)) (drop (at + 1) text) → Decides b (Numeral x.0.now × Numeral x.1.now) → MatchOption (then_some b x) ((whole part : List ℕ) → Decimal text whole part → ⊥) (λ y. Decimal text y.0.now y.1.now)
+parted text at x true within here none e f d = let n = d.0 refl in pointed text x.0.now x.1.now at within here e (f ∙ back_is text (at + 1)) n.0 n.1
+parted text at x false within here none e f d = λ whole part h. absurd (let t = d.1 (at_point text whole part x.0.now x.1.now at within here none e (f ∙ back_is text (at + 1)) h) in cc)

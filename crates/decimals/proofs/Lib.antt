@@ -1,2 +1,3 @@
 mod Laws
 mod Groups
+pub mod Padding

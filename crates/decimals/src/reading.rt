@@ -1,6 +1,6 @@
 // Reading a decimal number.
 
-ghost use Rattle.std.specs.Prelude.{◌≡◌, ℕ, ◌+◌, ◌^◌, ◌<◌, ◌≤◌, List, length, IfSome, Decides, MatchOption, MatchResult, OnErr, ◌≢◌, slice_index};
+ghost use Rattle.std.specs.Prelude.{◌≡◌, ℕ, ◌+◌, ◌^◌, ◌<◌, ◌≤◌, List, length, IfSome, Decides, MatchOption, MatchResult, OnErr};
 ghost use Rattle.decimals.specs.Numerals.{Decimal, Digits, Numeral, places_of, Refused, Spells, value as value_of};
 
 use crate::kinds::{Misread, Places};
@@ -21,28 +21,11 @@ impl Places {
     }
 }
 
-// The place of the first point.
-fn point(text: &[u8]) -> Option<usize>
-    ensures { MatchOption result ((k : ℕ) → k < length text.now → slice_index text.now k ≢ 46) (λ at. (at < length text.now) × (slice_index text.now at ≡ 46) × ((k : ℕ) → k < at → slice_index text.now k ≢ 46)) }
-{
-    for (i, b) in text.iter().enumerate() {
-        if *b == b'.' {
-            return Some(i);
-        }
-    }
-    None
-}
-
 // Whether the text is one digit or more, and nothing else.
 fn is_numeral(text: &[u8]) -> bool
     ensures { Decides result (Numeral text.now) }
 {
-    for b in text {
-        if !b.is_ascii_digit() {
-            return false;
-        }
-    }
-    !text.is_empty()
+    !text.is_empty() && text.iter().all(|b| b.is_ascii_digit())
 }
 
 // The digits before the point and those after it, if the text is a decimal number.
@@ -50,20 +33,11 @@ fn parts(text: &[u8]) -> Option<(&[u8], &[u8])>
     ensures parted { MatchOption result ((whole part : List ℕ) → Decimal text.now whole part → ⊥) (λ x. Decimal text.now x.0.now x.1.now) }
     ensures short { IfSome result (λ x. length x.0.now + length x.1.now ≤ length text.now) }
 {
-    let Some(at) = point(text) else {
-        return if is_numeral(text) {
-            Some((text, &text[text.len()..]))
-        } else {
-            None
-        };
+    let Some(at) = text.iter().position(|b| *b == b'.') else {
+        return is_numeral(text).then_some((text, &[]));
     };
-    let whole = &text[0..at];
-    let part = &text[at + 1..];
-    if is_numeral(whole) && is_numeral(part) {
-        Some((whole, part))
-    } else {
-        None
-    }
+    let (whole, part) = (&text[..at], &text[at + 1..]);
+    (is_numeral(whole) && is_numeral(part)).then_some((whole, part))
 }
 
 // The number that at most 15 digits write.
@@ -73,11 +47,9 @@ fn value(digits: &[u8]) -> u64
     ensures is { result ≡ value_of digits.now }
     ensures small { result < 1000000000000000 }
 {
-    let mut value = 0;
-    for b in digits {
-        value = 10 * value + u64::from(*b - b'0');
-    }
-    value
+    digits
+        .iter()
+        .fold(0, |value, b| 10 * value + u64::from(*b - b'0'))
 }
 
 // A small power of ten.
@@ -97,9 +69,7 @@ pub fn read(text: &[u8], places: Places) -> Result<u64, Misread>
     if text.is_empty() {
         return Err(Misread::Empty);
     }
-    let Some((whole, part)) = parts(text) else {
-        return Err(Misread::NotANumber);
-    };
+    let (whole, part) = parts(text).ok_or(Misread::NotANumber)?;
     if whole.len() + part.len() > MOST_DIGITS {
         return Err(Misread::TooManyDigits);
     }

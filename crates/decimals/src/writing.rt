@@ -14,6 +14,7 @@ pub struct Fixed {
     pub places: Places,
 }
 
+#[tactic(auto, using(crate::proofs::Padding::padded_two, crate::proofs::Padding::padded_three))]
 impl fmt::Display for Fixed {
     ghost output = { λ x. Some (with_decimals x.places x.value) };
 
@@ -21,8 +22,8 @@ impl fmt::Display for Fixed {
         let n = self.value;
         match self.places {
             Places::Zero => write!(f, "{n}"),
-            Places::Two => write!(f, "{}.{}{}", n / 100, n / 10 % 10, n % 10),
-            Places::Three => write!(f, "{}.{}{}{}", n / 1000, n / 100 % 10, n / 10 % 10, n % 10),
+            Places::Two => write!(f, "{}.{:02}", n / 100, n % 100),
+            Places::Three => write!(f, "{}.{:03}", n / 1000, n % 1000),
         }
     }
 }
@@ -36,7 +37,7 @@ fn write_groups<W: fmt::Write>(n: u64, f: &mut fmt::Formatter<W>) -> fmt::Result
         return write!(f, "{n}");
     }
     write_groups(n / 1000, f)?;
-    write!(f, ",{}{}{}", n / 100 % 10, n / 10 % 10, n % 10)
+    write!(f, ",{:03}", n % 1000)
 }
 
 // A number with thousands separators: 65,109.

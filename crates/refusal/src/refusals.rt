@@ -1,6 +1,6 @@
 // The refusals, in the order of their numbers.
 
-#[derive(Clone, Copy)]
+#[derive(Clone, Copy, PartialEq, Eq, Debug)]
 pub enum Refusal {
     // the book's first day is above 10,830
     FirstDayTooLate,
@@ -66,7 +66,7 @@ pub enum Refusal {
 }
 
 // A refusal as numbers: 0 where a place is unused.
-#[derive(Clone, Copy, PartialEq, Eq, Debug)]
+#[derive(Clone, Copy, PartialEq, Eq, Default, Debug)]
 pub struct Answer {
     pub number: u8,
     pub day: u16,

@@ -29,20 +29,20 @@ fn sentence(refusal: Refusal) -> &'static str {
         Refusal::NothingToWithdraw => "no notice stands that could be withdrawn",
         Refusal::MonthOutsideBook => "the month does not lie wholly in the book",
         Refusal::BufferTooShort => "a statement needs a buffer of 2,048 bytes",
-        Refusal::KindLacking { day: _ } => "a day that may be a baseline day has no kind:",
-        Refusal::TooFewBaselineDays { event_day: _ } =>
+        Refusal::KindLacking { .. } => "a day that may be a baseline day has no kind:",
+        Refusal::TooFewBaselineDays { .. } =>
             "the book has too few baseline days before the event of",
-        Refusal::ReadingAbsent { day: _, quarter: _ } => "a reading is absent:",
+        Refusal::ReadingAbsent { .. } => "a reading is absent:",
         Refusal::TableMisfit => "the table's memory, accounts and days do not fit each other",
         Refusal::OutsideTable => "the account or the day lies outside the table",
         Refusal::NumberUnlawful =>
             "a filed number is neither a reading up to 200,000,000 W nor the mark for absent",
-        Refusal::HeadCut { offset: _ } => "the file ends in the first 15 bytes of a record,",
-        Refusal::RecordOutOfRange { offset: _ } => "a record's account or day is out of range,",
-        Refusal::RecordOutOfOrder { offset: _ } => "a record does not come after the one before,",
-        Refusal::EmptyMap { offset: _ } => "a record announces no reading,",
-        Refusal::ReadingsCut { offset: _ } => "the file ends in the readings of a record,",
-        Refusal::ReadingTooHigh { offset: _ } => "a reading is above 200,000,000 W,",
+        Refusal::HeadCut { .. } => "the file ends in the first 15 bytes of a record,",
+        Refusal::RecordOutOfRange { .. } => "a record's account or day is out of range,",
+        Refusal::RecordOutOfOrder { .. } => "a record does not come after the one before,",
+        Refusal::EmptyMap { .. } => "a record announces no reading,",
+        Refusal::ReadingsCut { .. } => "the file ends in the readings of a record,",
+        Refusal::ReadingTooHigh { .. } => "a reading is above 200,000,000 W,",
         Refusal::RecordTooLong => "the buffer ends before the record would",
         Refusal::ReadingBeyondMap => "the record has all its readings already",
         Refusal::ReadingsLacking =>
@@ -51,48 +51,52 @@ fn sentence(refusal: Refusal) -> &'static str {
     }
 }
 
-// A day as a date, or as a number where the calendar has no such day.
+// A day or a quarter as the calendar shows it, or by its number where the calendar has none such.
 #[derive(Clone, Copy)]
-struct Dated(u16);
+struct Place<T> {
+    shown: Option<T>,
+    kind: &'static str,
+    number: u16,
+}
 
-impl fmt::Display for Dated {
+impl<T: fmt::Display> fmt::Display for Place<T> {
     fn fmt<W: fmt::Write>(&self, f: &mut fmt::Formatter<W>) -> fmt::Result {
-        match Day::new(self.0) {
-            Some(day) => write!(f, "{day}"),
-            None => {
-                let number = self.0;
-                write!(f, "day {number}")
-            }
+        match &self.shown {
+            Some(shown) => shown.fmt(f),
+            None => write!(f, "{} {}", self.kind, self.number),
         }
     }
 }
 
-// A quarter as a time, or as a number where the day has no such quarter.
-#[derive(Clone, Copy)]
-struct Timed(u8);
+fn dated(day: u16) -> Place<Day> {
+    Place {
+        shown: Day::new(day),
+        kind: "day",
+        number: day,
+    }
+}
 
-impl fmt::Display for Timed {
-    fn fmt<W: fmt::Write>(&self, f: &mut fmt::Formatter<W>) -> fmt::Result {
-        match Quarter::new(self.0) {
-            Some(quarter) => write!(f, "{quarter}"),
-            None => {
-                let number = self.0;
-                write!(f, "quarter {number}")
-            }
-        }
+fn timed(quarter: u8) -> Place<Quarter> {
+    Place {
+        shown: Quarter::new(quarter),
+        kind: "quarter",
+        number: u16::from(quarter),
     }
 }
 
 // The places that a refusal names.
 fn places<W: fmt::Write>(refusal: Refusal, f: &mut fmt::Formatter<W>) -> fmt::Result {
     match refusal {
-        Refusal::KindLacking { day } => write!(f, " {}", Dated(day)),
-        Refusal::TooFewBaselineDays { event_day } => write!(f, " {}", Dated(event_day)),
+        Refusal::KindLacking { day } | Refusal::TooFewBaselineDays { event_day: day } => write!(
+            f,
+            " {}",
+            dated(day)
+        ),
         Refusal::ReadingAbsent { day, quarter } => write!(
             f,
             " {} at {}",
-            Dated(day),
-            Timed(quarter)
+            dated(day),
+            timed(quarter)
         ),
         Refusal::HeadCut { offset }
         | Refusal::RecordOutOfRange { offset }
@@ -106,9 +110,7 @@ fn places<W: fmt::Write>(refusal: Refusal, f: &mut fmt::Formatter<W>) -> fmt::Re
 
 impl fmt::Display for Refusal {
     fn fmt<W: fmt::Write>(&self, f: &mut fmt::Formatter<W>) -> fmt::Result {
-        let number = self.number();
-        let words = sentence(*self);
-        write!(f, "refusal {number}: {words}")?;
+        write!(f, "refusal {}: {}", self.number(), sentence(*self))?;
         places(*self, f)
     }
 }

@@ -10,9 +10,7 @@ fn plain(number: u8) -> Answer
 {
     Answer {
         number,
-        day: 0,
-        quarter: 0,
-        offset: 0,
+        ..Answer::default()
     }
 }
 
@@ -22,8 +20,7 @@ fn on_day(number: u8, day: u16) -> Answer
     Answer {
         number,
         day,
-        quarter: 0,
-        offset: 0,
+        ..Answer::default()
     }
 }
 
@@ -32,9 +29,8 @@ fn at_byte(number: u8, offset: usize) -> Answer
 {
     Answer {
         number,
-        day: 0,
-        quarter: 0,
         offset,
+        ..Answer::default()
     }
 }
 
@@ -72,7 +68,7 @@ impl Refusal {
                 number: 25,
                 day,
                 quarter,
-                offset: 0,
+                ..Answer::default()
             },
             Refusal::TableMisfit => plain(26),
             Refusal::OutsideTable => plain(27),

@@ -17,7 +17,7 @@ mod tests {
     ) -> Result<(), Fail> {
         let text = format!(in rt.alloc(); "{refusal}")?;
         assert_eq!(rt; refusal.number(), number);
-        assert!(rt; text.as_str() == line, "{}", line);
+        assert_eq!(rt; text.as_str(), line);
         Ok(())
     }
 

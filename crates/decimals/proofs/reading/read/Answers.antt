@@ -1,29 +1,24 @@
 use Rattle.std.proofs.Common.{◌≤◌, mul-le-mul, arith, rules}
-use Rattle.std.proofs.lemmas.List.{nil_from_length}
+use Rattle.std.proofs.lemmas.Result.{MatchResult-from_err}
 use Rattle.decimals.specs.Numerals.{places_of, Refused}
-use Rattle.decimals.specs.declared.kinds.Misread.TheVariants.{Empty, NotANumber, TooManyDigits, TooManyDecimals}
+use Rattle.decimals.specs.declared.kinds.Misread.TheVariants.{NotANumber, TooManyDigits, TooManyDecimals}
 use Rattle.decimals.proofs.Laws.{none_spelt}
 use Rattle.decimals.proofs.reading.read.Goals as goal
 
-pub returns-then-is_empty : goal.returns-then-is_empty
-returns-then-is_empty c =
-    let means = nil_from_length c.args.text.now (search rules) in
-    record { means = means; only = none_spelt (places_of c.args.places) c.args.text.now Empty means }
-
-pub returns-in_default : goal.returns-in_default
-returns-in_default c =
+pub returns-in_err-whole-clause-only : goal.returns-in_err-whole-clause-only
+returns-in_err-whole-clause-only c =
     let means : Refused (places_of c.args.places) c.args.text.now NotANumber = search rules in
-    record { means = means; only = none_spelt (places_of c.args.places) c.args.text.now NotANumber means }
+    MatchResult-from_err c.from_residual.result _ _ (search rules) (λ e. none_spelt (places_of c.args.places) c.args.text.now NotANumber means)
 
-pub returns-then-whole-part-gt-MOST_DIGITS : goal.returns-then-whole-part-gt-MOST_DIGITS
-returns-then-whole-part-gt-MOST_DIGITS c =
+pub returns-then-whole-part-gt-MOST_DIGITS-clause-only : goal.returns-then-whole-part-gt-MOST_DIGITS-clause-only
+returns-then-whole-part-gt-MOST_DIGITS-clause-only c =
     let means : Refused (places_of c.args.places) c.args.text.now TooManyDigits = search rules in
-    record { means = means; only = none_spelt (places_of c.args.places) c.args.text.now TooManyDigits means }
+    none_spelt (places_of c.args.places) c.args.text.now TooManyDigits means
 
-pub returns-then-part-count : goal.returns-then-part-count
-returns-then-part-count c =
+pub returns-then-part-count-clause-only : goal.returns-then-part-count-clause-only
+returns-then-part-count-clause-only c =
     let means : Refused (places_of c.args.places) c.args.text.now TooManyDecimals = search rules in
-    record { means = means; only = none_spelt (places_of c.args.places) c.args.text.now TooManyDecimals means }
+    none_spelt (places_of c.args.places) c.args.text.now TooManyDecimals means
 
 pub overflow_mul-result : goal.overflow_mul-result
 overflow_mul-result c =
