@@ -1,3 +1,4 @@
 pub mod Readings
 pub mod Tables
+pub mod Reads
 pub mod Groups

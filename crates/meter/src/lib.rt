@@ -12,5 +12,5 @@ mod tables;
 pub use filing::MARK;
 pub use groups::{Group, GroupMeter};
 pub use layouts::Layout;
-pub use meters::{LIMIT, Meter};
+pub use meters::{LIMIT, Meter, lawful};
 pub use tables::Table;

@@ -18,12 +18,9 @@ mod tests {
         days: 2,
     };
 
-    // The number of a refusal, 0 where there is none.
-    fn number<T: Drop>(r: Result<T, Refusal>) -> u8 {
-        match r {
-            Ok(_) => 0,
-            Err(refusal) => refusal.number(),
-        }
+    // The number of the refusal, if there is one.
+    fn refused<T: Drop>(answer: Result<T, Refusal>) -> Option<u8> {
+        answer.err().map(|refusal| refusal.number())
     }
 
     #[test]
@@ -31,20 +28,23 @@ mod tests {
         let mut memory = [7; 576];
         {
             let mut table = Table::new(&mut memory);
-            assert_eq!(rt; number(table.lay_out(Layout { days: 3, ..LAYOUT })), 26);
             assert_eq!(rt;
-                number(table.lay_out(Layout {
+                refused(table.lay_out(Layout { days: 3, ..LAYOUT })),
+                Some(26)
+            );
+            assert_eq!(rt;
+                refused(table.lay_out(Layout {
                     accounts: 0,
                     ..LAYOUT
                 })),
-                26
+                Some(26)
             );
             assert_eq!(rt;
-                number(table.lay_out(Layout {
+                refused(table.lay_out(Layout {
                     first_day: 10_957,
                     ..LAYOUT
                 })),
-                26
+                Some(26)
             );
             assert_eq!(rt; table.reading(0, 100, 0), None);
         }
@@ -52,11 +52,11 @@ mod tests {
         {
             let mut table = Table::new(&mut memory);
             assert_eq!(rt;
-                number(table.lay_out(Layout {
+                refused(table.lay_out(Layout {
                     first_day: 10_956,
                     ..LAYOUT
                 })),
-                0
+                None
             );
             assert_eq!(rt; table.reading(0, 10_957, 95), None);
         }
@@ -67,19 +67,19 @@ mod tests {
     fn a_filed_day_reads_as_filed(rt: HostRuntime) {
         let mut memory = [0; 576];
         let mut table = Table::new(&mut memory);
-        assert_eq!(rt; number(table.lay_out(LAYOUT)), 0);
+        assert_eq!(rt; refused(table.lay_out(LAYOUT)), None);
         let mut day = [1500; 96];
         day[3] = MARK;
-        assert_eq!(rt; number(table.file_day(1, 101, &day)), 0);
+        assert_eq!(rt; refused(table.file_day(1, 101, &day)), None);
         assert_eq!(rt; table.reading(1, 101, 2), Some(1500));
         assert_eq!(rt; table.reading(1, 101, 3), None);
         assert_eq!(rt; table.reading(1, 101, 96), None);
         assert_eq!(rt; table.reading(1, 100, 2), None);
         assert_eq!(rt; table.reading(0, 101, 2), None);
-        assert_eq!(rt; number(table.file_day(3, 101, &day)), 27);
-        assert_eq!(rt; number(table.file_day(1, 102, &day)), 27);
+        assert_eq!(rt; refused(table.file_day(3, 101, &day)), Some(27));
+        assert_eq!(rt; refused(table.file_day(1, 102, &day)), Some(27));
         day[95] = 200_000_001;
-        assert_eq!(rt; number(table.file_day(0, 100, &day)), 28);
+        assert_eq!(rt; refused(table.file_day(0, 100, &day)), Some(28));
         assert_eq!(rt; table.reading(0, 100, 0), None);
     }
 
@@ -87,16 +87,16 @@ mod tests {
     fn a_group_reads_its_sum(rt: HostRuntime) -> Result<(), Fail> {
         let mut memory = [0; 576];
         let mut table = Table::new(&mut memory);
-        assert_eq!(rt; number(table.lay_out(LAYOUT)), 0);
+        assert_eq!(rt; refused(table.lay_out(LAYOUT)), None);
         let mut day = [1500; 96];
-        assert_eq!(rt; number(table.file_day(0, 100, &day)), 0);
+        assert_eq!(rt; refused(table.file_day(0, 100, &day)), None);
         day[1] = 199_998_500;
         day[2] = 199_998_501;
         day[3] = MARK;
-        assert_eq!(rt; number(table.file_day(1, 100, &day)), 0);
-        assert_eq!(rt; number(Group::new(2, 0b0000_0111)), 38);
-        assert_eq!(rt; number(Group::new(2, 0b0000_0001)), 38);
-        assert_eq!(rt; number(Group::new(8, 0b0000_0011)), 38);
+        assert_eq!(rt; refused(table.file_day(1, 100, &day)), None);
+        assert_eq!(rt; refused(Group::new(2, 0b0000_0111)), Some(38));
+        assert_eq!(rt; refused(Group::new(2, 0b0000_0001)), Some(38));
+        assert_eq!(rt; refused(Group::new(8, 0b0000_0011)), Some(38));
         let Ok(group) = Group::new(2, 0b0000_0011) else {
             return Err(Fail::new("two members are a group"));
         };
@@ -113,11 +113,11 @@ mod tests {
     fn a_window_is_added_up_or_peaks(rt: HostRuntime) -> Result<(), Fail> {
         let mut memory = [0; 576];
         let mut table = Table::new(&mut memory);
-        assert_eq!(rt; number(table.lay_out(LAYOUT)), 0);
+        assert_eq!(rt; refused(table.lay_out(LAYOUT)), None);
         let mut day = [1000; 96];
         day[41] = 3000;
-        assert_eq!(rt; number(table.file_day(0, 100, &day)), 0);
-        assert_eq!(rt; number(table.file_day(0, 101, &day)), 0);
+        assert_eq!(rt; refused(table.file_day(0, 100, &day)), None);
+        assert_eq!(rt; refused(table.file_day(0, 101, &day)), None);
         assert!(rt; Window::new(89, 2).is_none());
         let Some(window) = Window::new(40, 2) else {
             return Err(Fail::new("a window that ends by midnight"));
@@ -139,14 +139,12 @@ mod tests {
         );
         day[44] = MARK;
         day[46] = MARK;
-        assert_eq!(rt; number(table.file_day(0, 100, &day)), 0);
-        match baseline::<Economic, Table>(&table, 0, &days, window) {
-            Ok(_) => Err(Fail::new("two readings are absent")),
-            Err(refusal) => {
-                let answer = refusal.answer();
-                assert_eq!(rt; (answer.number, answer.day, answer.quarter), (25, 100, 44));
-                Ok(())
-            }
-        }
+        assert_eq!(rt; refused(table.file_day(0, 100, &day)), None);
+        let Err(refusal) = baseline::<Economic, Table>(&table, 0, &days, window) else {
+            return Err(Fail::new("two readings are absent"));
+        };
+        let answer = refusal.answer();
+        assert_eq!(rt; (answer.number, answer.day, answer.quarter), (25, 100, 44));
+        Ok(())
     }
 }

@@ -1,6 +1,6 @@
 // Reading and extending a short list.
 
-ghost use Rattle.std.specs.Prelude.{◌≡◌, ◌+◌, ◌<◌, ◌≤◌, Bool, true, false, [], ◌∷◌, ◌++◌, length, nat_lt};
+ghost use Rattle.std.specs.Prelude.{◌≡◌, ◌≤◌, [], length, nat_lt};
 ghost use Rattle.short_list.specs.Listed.{listed, pushed};
 
 use crate::lists::Short;
@@ -11,7 +11,7 @@ impl<T: Copy, const N: usize> Clone for Short<T, N> {
 
     ghost is_infallible = { λ _. Unit {0} };
 
-    fn clone(&self) -> Result<Short<T, N>, AllocError> {
+    fn clone(&self) -> Result<Self, AllocError> {
         Ok(*self)
     }
 }
@@ -44,7 +44,6 @@ impl<T: Copy, const N: usize> Short<T, N> {
         ensures items { result.now ≡ listed self.now }
         ensures most { length result.now ≤ N }
     {
-        let all = &self.items[..];
-        &all[0..self.count]
+        &self.items[..self.count]
     }
 }
