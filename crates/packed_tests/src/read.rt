@@ -20,9 +20,7 @@ fn tells_the_sample<M: Meter>(rt: &impl Abort, meter: &M) -> Result<(), Fail> {
 
 #[test]
 fn reads(rt: HostRuntime) -> Result<(), Fail> {
-    let Ok(file) = PackedFile::open(&SAMPLE) else {
-        return Err(Fail::new("refused"));
-    };
+    let file = PackedFile::open(&SAMPLE).ok().ok_or("refused")?;
     tells_the_sample(&rt, &file)
 }
 
@@ -38,9 +36,7 @@ fn reads_by_index(rt: HostRuntime) -> Result<(), Fail> {
 
 #[test]
 fn walks(rt: HostRuntime) -> Result<(), Fail> {
-    let Ok(file) = PackedFile::open(&SAMPLE) else {
-        return Err(Fail::new("refused"));
-    };
+    let file = PackedFile::open(&SAMPLE).ok().ok_or("refused")?;
     let mut readings = 0u8;
     let mut last_account = 0;
     let mut last_day = 0;
@@ -48,7 +44,7 @@ fn walks(rt: HostRuntime) -> Result<(), Fail> {
         last_account = record.account();
         last_day = record.day();
         for quarter in 0..96 {
-            if let Some(_watts) = record.reading(quarter) {
+            if record.reading(quarter).is_some() {
                 readings = readings.wrapping_add(1);
             }
         }
@@ -61,9 +57,7 @@ fn walks(rt: HostRuntime) -> Result<(), Fail> {
 
 #[test]
 fn empty_file(rt: HostRuntime) -> Result<(), Fail> {
-    let Ok(file) = PackedFile::open(&[]) else {
-        return Err(Fail::new("refused"));
-    };
+    let file = PackedFile::open(&[]).ok().ok_or("refused")?;
     assert_eq!(rt; file.reading(0, 5, 0), None);
     Ok(())
 }

@@ -10,20 +10,13 @@ mod tests {
     use refusal::Refusal;
     use std::test::Fail;
 
-    // The number of a refusal, or 0.
-    fn number(told: Result<(), Refusal>) -> u8 {
-        match told {
-            Ok(_) => 0,
-            Err(refusal) => refusal.number(),
-        }
+    // The number of a refusal, if there is one, and where the refused record would begin.
+    fn number(told: Result<(), Refusal>) -> Option<u8> {
+        told.err().map(|refusal| refusal.number())
     }
 
-    // Where a refused record would begin.
-    fn place(told: Result<(), Refusal>) -> usize {
-        match told {
-            Ok(_) => 0,
-            Err(refusal) => refusal.answer().offset,
-        }
+    fn place(told: Result<(), Refusal>) -> Option<usize> {
+        told.err().map(|refusal| refusal.answer().offset)
     }
 
     #[test]
@@ -32,10 +25,7 @@ mod tests {
         quarters[0] = Some(1);
         quarters[9] = Some(200_000_000);
         let mut buffer = [238; 24];
-        match write_day(&mut buffer, 3, 258, &quarters) {
-            Ok(len) => assert_eq!(rt; len, 23),
-            Err(refusal) => assert_eq!(rt; refusal.number(), 0),
-        }
+        assert_eq!(rt; write_day(&mut buffer, 3, 258, &quarters).ok(), Some(23));
         let file = [
             3, 1, 2, 128, 64, 0, 0, 0, 0, 0, 0, 0, 0, 0, 0, 0, 0, 0, 1, 11, 235, 194, 0, 238,
         ];
@@ -66,16 +56,16 @@ mod tests {
         let third = w.append_day(1, 1, &quarters);
         let fourth = w.append_day(1, 2, &quarters);
         let len = w.close();
-        assert_eq!(rt; number(empty), 32);
-        assert_eq!(rt; number(first), 0);
-        assert_eq!(rt; number(again), 31);
-        assert_eq!(rt; place(again), 19);
-        assert_eq!(rt; number(no_account), 30);
-        assert_eq!(rt; number(high), 34);
-        assert_eq!(rt; place(high), 19);
-        assert_eq!(rt; number(second), 0);
-        assert_eq!(rt; number(third), 0);
-        assert_eq!(rt; number(fourth), 35);
+        assert_eq!(rt; number(empty), Some(32));
+        assert_eq!(rt; number(first), None);
+        assert_eq!(rt; number(again), Some(31));
+        assert_eq!(rt; place(again), Some(19));
+        assert_eq!(rt; number(no_account), Some(30));
+        assert_eq!(rt; number(high), Some(34));
+        assert_eq!(rt; place(high), Some(19));
+        assert_eq!(rt; number(second), None);
+        assert_eq!(rt; number(third), None);
+        assert_eq!(rt; number(fourth), Some(35));
         assert_eq!(rt; len, 57);
     }
 
@@ -84,7 +74,7 @@ mod tests {
     fn what_is_written_is_read(rt: HostRuntime) -> Result<(), Fail> {
         let mut quarters = [None; 96];
         for quarter in 0..96u8 {
-            quarters[quarter as usize] = Some(1_000_000 + quarter as u32);
+            quarters[usize::from(quarter)] = Some(1_000_000 + u32::from(quarter));
         }
         let mut buffer = [0; 500];
         let mut w = Writer::new(&mut buffer);
@@ -93,15 +83,19 @@ mod tests {
         single[17] = Some(0);
         let one = w.append_day(2, 4001, &single);
         let len = w.close();
-        assert_eq!(rt; number(full), 0);
-        assert_eq!(rt; number(one), 0);
+        assert_eq!(rt; number(full), None);
+        assert_eq!(rt; number(one), None);
         assert_eq!(rt; len, 418);
-        let Ok(file) = PackedFile::open(&buffer[0..418]) else {
-            return Err(Fail::new("refused"));
-        };
+        let file = PackedFile::open(&buffer[..len]).ok().ok_or("refused")?;
         for quarter in 0..96u8 {
-            assert_eq!(rt; file.reading(2, 4000, quarter), quarters[quarter as usize]);
-            assert_eq!(rt; file.reading(2, 4001, quarter), single[quarter as usize]);
+            assert_eq!(rt;
+                file.reading(2, 4000, quarter),
+                quarters[usize::from(quarter)]
+            );
+            assert_eq!(rt;
+                file.reading(2, 4001, quarter),
+                single[usize::from(quarter)]
+            );
         }
         assert_eq!(rt; file.reading(2, 4000, 96), None);
         assert_eq!(rt; file.reading(2, 3999, 0), None);
