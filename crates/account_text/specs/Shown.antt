@@ -1,7 +1,6 @@
 -- What the account shows besides the settlement's own amounts.
-use Rattle.std.specs.Prelude.{◌≡◌, ℕ, ◌+◌, ◌-◌, ◌*◌, ◌^◌, ◌<◌, min, Ok}
-use Rattle.programme.specs.declared.figures.Fold.{Fold}
-use Rattle.programme.specs.declared.figures.Fold.TheVariants.{Sum, Peak}
+use Rattle.std.specs.Prelude.{◌≡◌, ℕ, ◌+◌, ◌-◌, ◌/◌, ◌^◌, ◌<◌, min, List, ◌∷◌, Ok}
+use Rattle.decimals.specs.Written.{grouped}
 use Rattle.settlement.specs.declared.events.Totals.{Totals}
 use Rattle.sheet.specs.Settling.{Settled}
 use Rattle.sheet.specs.declared.sheets.Sheet.{Sheet}
@@ -12,15 +11,19 @@ use Rattle.account_text.specs.declared.nets.Net.TheVariants.{Paid, Owed}
 abbrev pub capped : ℕ → ℕ
 capped n = min n (2 ^ 64 - 1)
 
--- By how much a figure of so many windows is divided to give a mean demand: by all readings where they were added up, else by the windows.
-abbrev pub per_window : Fold → ℕ → ℕ → ℕ
-per_window Sum windows n = capped (windows * n)
-per_window Peak windows n = windows
+-- a / b to the nearest whole number, a half upward, and 0 where b is 0.
+abbrev pub rounded : ℕ → ℕ → ℕ
+rounded a b = capped (a + b / 2) / b
 
 -- The basic credit and the credits less the surcharges: paid if that is not negative, else owed.
 abbrev pub Balances : Totals → Net → Type 0
 Balances t (Paid n) = n + t.surcharges ≡ capped (t.basic + t.credits)
 Balances t (Owed n) = (0 < n) × (n + capped (t.basic + t.credits) ≡ t.surcharges)
+
+-- What is owed has a minus before it; dollars have a comma before each three digits.
+abbrev pub balance_text : Net → List ℕ
+balance_text (Paid n) = grouped n
+balance_text (Owed n) = 45 ∷ grouped n
 
 -- The sheet is settled with some totals, and not refused.
 abbrev pub SettlesSo : Sheet → Type 0

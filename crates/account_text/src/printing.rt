@@ -1,25 +1,45 @@
 // The account, line by line.
 
-ghost use Rattle.std.specs.Prelude.{OnOk};
+ghost use Rattle.std.specs.Prelude.{OnOk, Some};
 ghost use Rattle.sheet.specs.Sheets.{Sound};
 ghost use Rattle.sheet.specs.declared.sheets.Sheet.{Sheet as Read};
-ghost use Rattle.account_text.specs.Shown.{SettlesSo};
+ghost use Rattle.account_text.specs.Shown.{balance_text, SettlesSo};
 
-use crate::amounts::{dollars, kilowatts, net, parts, price, rounded};
+use crate::amounts::{mean_kw, net};
 use crate::nets::Net;
-use programme::{Code, below_lowest, rate, saving};
-use refusal::Refusal;
+use decimals::{Fixed, Grouped, Places};
+use programme::{Code, Dispatch, below_lowest, rate};
 use settlement::{Agreement, Event, Totals};
 use sheet::Sheet;
 use sheet_values::Header;
-use sheet_words::{LineFault, SheetFault};
+use sheet_words::SheetFault;
 use std::alloc::{AllocError, Global};
+use std::fmt;
 
-fn programme_name(code: Code) -> &'static str {
-    match code {
-        Code::Economic => "economic bidding",
-        Code::JointBidding => "joint bidding",
-        Code::Reliable => "reliable bidding",
+// A programme by its name, with its letter in brackets.
+#[derive(Clone, Copy)]
+struct Title(Code);
+
+impl fmt::Display for Title {
+    fn fmt<W: fmt::Write>(&self, f: &mut fmt::Formatter<W>) -> fmt::Result {
+        let name = match self.0 {
+            Code::Economic => "economic bidding",
+            Code::JointBidding => "joint bidding",
+            Code::Reliable => "reliable bidding",
+        };
+        let letter = char::from(self.0);
+        write!(f, "{name} ({letter})")
+    }
+}
+
+impl fmt::Display for Net {
+    ghost output = { λ net. Some (balance_text net) };
+
+    fn fmt<W: fmt::Write>(&self, f: &mut fmt::Formatter<W>) -> fmt::Result {
+        match self {
+            Net::Paid(amount) => write!(f, "{}", Grouped(*amount)),
+            Net::Owed(amount) => write!(f, "-{}", Grouped(*amount)),
+        }
     }
 }
 
@@ -27,10 +47,9 @@ fn heading(heap: Global, header: Header) -> Result<String, AllocError> {
     let agreement = header.agreement;
     let terms = agreement.terms;
     format!(in heap;
-        "Account {}: {} ({}), {}\nContract capacity {} kW, agreed reduction {} kW, events of {} hours\n\n",
+        "Account {}: {}, {}\nContract capacity {} kW, agreed reduction {} kW, events of {} hours\n\n",
         agreement.account,
-        programme_name(agreement.code),
-        agreement.code.letter(),
+        Title(agreement.code),
         header.month,
         terms.capacity_kw,
         terms.reduction_kw,
@@ -43,22 +62,18 @@ fn heading(heap: Global, header: Header) -> Result<String, AllocError> {
 fn outcome(
     heap: Global,
     agreement: Agreement,
-    event: Event,
+    dispatch: Dispatch,
     missed: u64,
 ) -> Result<String, AllocError> {
     match agreement.code {
-        Code::Reliable => {
-            let met = if missed == 0 { "met" } else { "missed" };
-            String::from_str(heap, met)
-        }
+        Code::Reliable => String::from_str(heap, if missed == 0 { "met" } else { "missed" }),
         Code::Economic | Code::JointBidding => {
-            let saved = saving(event.baseline, event.event_load);
-            let terms = agreement.terms;
-            let n = terms.quarters();
-            if below_lowest(agreement.code.figures().lowest_kw, n, saved) {
+            let n = agreement.terms.quarters();
+            let saving = dispatch.saving();
+            if below_lowest(agreement.code.figures().lowest_kw, n, saving) {
                 return String::from_str(heap, "-");
             }
-            let percent = rate(event.late, n, terms.reduction_kw, saved);
+            let percent = rate(dispatch.late, n, agreement.terms.reduction_kw, saving);
             format!(in heap; "{percent}%")
         }
     }
@@ -72,33 +87,36 @@ fn event_line(
     amounts: (u64, u64, u64),
 ) -> Result<String, AllocError> {
     let (credit, surcharge, missed) = amounts;
+    let dispatch = event.dispatch;
     let figures = agreement.code.figures();
     let n = agreement.terms.quarters();
-    let days = u64::from(figures.baseline_days);
-    let baseline = kilowatts(heap, rounded(event.baseline, parts(figures.fold, days, n)))?;
-    let load = kilowatts(heap, rounded(event.event_load, parts(figures.fold, 1, n)))?;
-    let saved = saving(event.baseline, event.event_load);
-    let reduction = kilowatts(heap, rounded(saved, parts(figures.fold, 5, n)))?;
-    let notice = if event.late { "late" } else { "early" };
-    let price = price(heap, event.price)?;
-    let outcome = outcome(heap, agreement, event, missed)?;
-    let credit = dollars(heap, credit)?;
-    let surcharge = dollars(heap, surcharge)?;
+    let kilowatts = |watts, windows| {
+        mean_kw(watts, figures.fold.parts(windows, n)).to_string(heap)
+    };
+    let baseline = kilowatts(dispatch.baseline, figures.baseline_days)?;
+    let load = kilowatts(dispatch.event_load, 1)?;
+    let reduction = kilowatts(dispatch.saving(), 5)?;
+    let notice = if dispatch.late { "late" } else { "early" };
+    let price = Fixed {
+        value: u64::from(dispatch.price),
+        places: Places::Two,
+    };
+    let price = price.to_string(heap)?;
+    let outcome = outcome(heap, agreement, dispatch, missed)?;
+    let credit = Grouped(credit).to_string(heap)?;
+    let surcharge = Grouped(surcharge).to_string(heap)?;
     format!(in heap;
-        "{}  {}  {:<6}  {:>5}  {:>11}  {:>11}  {:>12}  {:>6}  {:>13}  {:>13}\n",
-        event.day, event.start, notice, price, baseline, load, reduction, outcome, credit, surcharge
+        "{}  {}  {notice:<6}  {price:>5}  {baseline:>11}  {load:>11}  {reduction:>12}  {outcome:>6}  {credit:>13}  {surcharge:>13}\n",
+        event.day, event.start
     )
 }
 
 // The totals, whose names and amounts stand in two columns.
 fn ending(heap: Global, totals: Totals) -> Result<String, AllocError> {
-    let basic = dollars(heap, totals.basic)?;
-    let credits = dollars(heap, totals.credits)?;
-    let surcharges = dollars(heap, totals.surcharges)?;
-    let net = match net(totals) {
-        Net::Paid(amount) => dollars(heap, amount)?,
-        Net::Owed(amount) => format!(in heap; "-{}", dollars(heap, amount)?)?,
-    };
+    let basic = Grouped(totals.basic).to_string(heap)?;
+    let credits = Grouped(totals.credits).to_string(heap)?;
+    let surcharges = Grouped(totals.surcharges).to_string(heap)?;
+    let net = net(totals).to_string(heap)?;
     format!(in heap;
         "\nBasic credit {basic:>17}\nCredits      {credits:>17}\nSurcharges   {surcharges:>17}\nNet          {net:>17}\n"
     )
@@ -115,22 +133,14 @@ pub fn account_text(heap: Global, sheet: &Sheet) -> Result<String, SheetFault>
     let agreement = sheet.header.agreement;
     let mut text = heading(heap, sheet.header)?;
     text.push_str(COLUMNS)?;
-    for (i, event) in sheet.events.iter().enumerate() {
-        let Some(amounts) = agreement.code.event(
-            agreement.terms,
-            event.price,
-            event.late,
-            event.baseline,
-            event.event_load,
-        )
-        else {
-            // no event of a settled month is out of range
-            return Err(SheetFault::Line {
-                line: sheet.line_of(Some(i)),
-                fault: LineFault::Refused(Refusal::OutOfRange),
-            });
-        };
-        text.push_str(event_line(heap, agreement, *event, amounts)?.as_str())?;
+    for noted in &sheet.events {
+        let event = noted.value;
+        // the agreement and the events of a settled month are in range
+        let amounts = agreement
+            .code
+            .event(agreement.terms, event.dispatch)
+            .unwrap();
+        text.push_str(event_line(heap, agreement, event, amounts)?.as_str())?;
     }
     text.push_str(ending(heap, totals)?.as_str())?;
     Ok(text)

@@ -6,7 +6,7 @@ use Rattle.programme.specs.declared.terms.Terms.{Terms}
 use Rattle.programme.specs.Bounds.{lawful_terms, quarters}
 use Rattle.programme.specs.Formulas.{rounded, saving, rate, economic_event, missed, reliable_event, reliable_basic}
 use Rattle.programme.specs.Meaning.{Amounts, Lawful}
-use Rattle.programme.specs.Programmes.{economic, joint_bidding, reliable}
+use Rattle.programme.specs.Programmes.{bidding, economic, joint_bidding, reliable}
 use Rattle.programme.specs.Orders.{InRanges, in_ranges, settled}
 use Rattle.programme.specs.Rounding.{rounded_mono}
 
@@ -61,21 +61,19 @@ reliable_basic_most t events misses h =
     let share = share_most (60 * t.reduction_kw) events misses in
     either_le (events == 0) (omega arith) (either_le (misses == 0) (omega arith) (omega arith))
 
-pub lawful_economic : Lawful economic
-lawful_economic =
+pub lawful_bidding : (letter lowest : ℕ) → 1 ≤ lowest → Lawful (bidding letter lowest)
+lawful_bidding letter lowest low =
     record {
-      figures = record { days_low = lit≤ tt; days_high = lit≤ tt; lowest_low = lit≤ tt; hours_long = lit≤ tt; hours_zero = refl; hours_one = refl; first_month_low = lit≤ tt; first_month_high = lit≤ tt; last_month_low = lit≤ tt; last_month_high = lit≤ tt; cap_low = lit≤ tt; cap_high = lit≤ tt; deadline_high = lit< tt };
-      event = λ t price late baseline load h. let s = settled economic.figures t price baseline load h in economic_amounts 20 t price late baseline load (omega arith) (omega arith);
+      figures = record { days_low = lit≤ tt; days_high = lit≤ tt; lowest_low = low; hours_long = lit≤ tt; hours_zero = refl; hours_one = refl; first_month_low = lit≤ tt; first_month_high = lit≤ tt; last_month_low = lit≤ tt; last_month_high = lit≤ tt; cap_low = lit≤ tt; cap_high = lit≤ tt; deadline_high = lit< tt };
+      event = λ t price late baseline load h. let s = settled (bidding letter lowest).figures t price baseline load h in economic_amounts lowest t price late baseline load (omega arith) (omega arith);
       basic = λ t events misses h. omega arith;
     }
 
+pub lawful_economic : Lawful economic
+lawful_economic = lawful_bidding 69 20 (lit≤ tt)
+
 pub lawful_joint_bidding : Lawful joint_bidding
-lawful_joint_bidding =
-    record {
-      figures = record { days_low = lit≤ tt; days_high = lit≤ tt; lowest_low = lit≤ tt; hours_long = lit≤ tt; hours_zero = refl; hours_one = refl; first_month_low = lit≤ tt; first_month_high = lit≤ tt; last_month_low = lit≤ tt; last_month_high = lit≤ tt; cap_low = lit≤ tt; cap_high = lit≤ tt; deadline_high = lit< tt };
-      event = λ t price late baseline load h. let s = settled joint_bidding.figures t price baseline load h in economic_amounts 100 t price late baseline load (omega arith) (omega arith);
-      basic = λ t events misses h. omega arith;
-    }
+lawful_joint_bidding = lawful_bidding 74 100 (lit≤ tt)
 
 pub lawful_reliable : Lawful reliable
 lawful_reliable =

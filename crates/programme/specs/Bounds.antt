@@ -28,6 +28,11 @@ in_season f month = nat_le f.first_month month && nat_le month f.last_month
 abbrev pub ends_by_midnight : Terms → ℕ → Bool
 ends_by_midnight t start = nat_le (start + quarters t) 96
 
+-- How many readings' watts are added up in a figure over so many windows of n quarters: all of them for a sum, one of each window for a peak.
+abbrev pub parts : Fold → ℕ → ℕ → ℕ
+parts Sum windows n = windows * n
+parts Peak windows n = windows
+
 -- The most that n readings of at most 200,000,000 W can make: their sum, or the largest of them.
 abbrev pub most : Fold → ℕ → ℕ
 most Sum n = n * 200000000

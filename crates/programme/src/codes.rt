@@ -6,3 +6,7 @@ pub enum Code {
     JointBidding,
     Reliable,
 }
+
+// A letter that no programme has.
+#[derive(Clone, Copy)]
+pub struct UnknownProgramme(pub char);

@@ -3,17 +3,20 @@
 #![tactic(auto)]
 
 mod codes;
-mod dispatch;
+mod dispatches;
 mod figures;
 mod formulas;
+mod letters;
 mod measures;
+mod payables;
 mod programmes;
 mod ranges;
 mod terms;
 
-pub use codes::Code;
+pub use codes::{Code, UnknownProgramme};
+pub use dispatches::Dispatch;
 pub use figures::{Figures, Fold};
-pub use formulas::{below_lowest, rate, saving};
+pub use formulas::{below_lowest, rate};
 pub use measures::{Measure, Peak, Sum};
 pub use programmes::{Economic, JointBidding, Programme, Reliable};
 pub use ranges::lawful_price;

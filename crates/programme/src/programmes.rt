@@ -7,9 +7,11 @@ ghost use Rattle.programme.specs.Programmes.{economic, joint_bidding, reliable};
 ghost use Rattle.programme.specs.Amounts.{lawful_economic, lawful_joint_bidding, lawful_reliable};
 ghost use Rattle.std.proofs.Common.{rules};
 
+use crate::dispatches::Dispatch;
 use crate::figures::{Figures, Fold};
 use crate::formulas;
 use crate::measures::{Measure, Peak, Sum};
+use crate::payables::Payable;
 use crate::terms::Terms;
 
 pub trait Programme {
@@ -42,15 +44,9 @@ pub trait Programme {
         ensures { result ≡ meaning.figures };
 
     // Credit, surcharge, and 1 for a missed event, else 0.
-    fn event(
-        terms: Terms,
-        price: u16,
-        late: bool,
-        baseline: u64,
-        event_load: u64,
-    ) -> (u64, u64, u64)
-        requires { settleable meaning.figures terms price baseline event_load ≡ true }
-        ensures { result ≡ meaning.event terms price late baseline event_load };
+    fn event(terms: Terms, dispatch: Dispatch) -> (u64, u64, u64)
+        requires { settleable meaning.figures terms dispatch.price dispatch.baseline dispatch.event_load ≡ true }
+        ensures { result ≡ meaning.event terms dispatch.price dispatch.late dispatch.baseline dispatch.event_load };
 
     // The basic credit of a month with so many events and so many missed.
     fn basic(terms: Terms, events: u8, missed: u8) -> u64
@@ -63,7 +59,7 @@ pub trait Programme {
     ghost measured: { Self.Window.Measure.kind ≡ meaning.figures.fold };
 }
 
-// A programme's constants as one value.
+// A programme's constants as one value. A method that the trait provides would need a ghost member beside each constant.
 macro_rules! fixed_figures {
     () => {
         Figures {
@@ -119,14 +115,8 @@ impl Programme for Economic {
         fixed_figures!()
     }
 
-    fn event(
-        terms: Terms,
-        price: u16,
-        late: bool,
-        baseline: u64,
-        event_load: u64,
-    ) -> (u64, u64, u64) {
-        formulas::economic_event(Self::LOWEST_KW, terms, price, late, baseline, event_load)
+    fn event(terms: Terms, dispatch: Dispatch) -> (u64, u64, u64) {
+        Payable { terms, dispatch }.economic(Self::LOWEST_KW)
     }
 
     fn basic(_terms: Terms, _events: u8, _missed: u8) -> u64 {
@@ -134,6 +124,7 @@ impl Programme for Economic {
     }
 }
 
+// The constants that it shares with economic bidding stand again: a constant's value cannot name one of another impl.
 pub struct JointBidding;
 
 impl Programme for JointBidding {
@@ -169,14 +160,8 @@ impl Programme for JointBidding {
         fixed_figures!()
     }
 
-    fn event(
-        terms: Terms,
-        price: u16,
-        late: bool,
-        baseline: u64,
-        event_load: u64,
-    ) -> (u64, u64, u64) {
-        formulas::economic_event(Self::LOWEST_KW, terms, price, late, baseline, event_load)
+    fn event(terms: Terms, dispatch: Dispatch) -> (u64, u64, u64) {
+        Payable { terms, dispatch }.economic(Self::LOWEST_KW)
     }
 
     fn basic(_terms: Terms, _events: u8, _missed: u8) -> u64 {
@@ -219,14 +204,8 @@ impl Programme for Reliable {
         fixed_figures!()
     }
 
-    fn event(
-        terms: Terms,
-        price: u16,
-        _late: bool,
-        baseline: u64,
-        event_load: u64,
-    ) -> (u64, u64, u64) {
-        formulas::reliable_event(terms, price, baseline, event_load)
+    fn event(terms: Terms, dispatch: Dispatch) -> (u64, u64, u64) {
+        Payable { terms, dispatch }.reliable()
     }
 
     fn basic(terms: Terms, events: u8, missed: u8) -> u64 {

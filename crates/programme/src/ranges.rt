@@ -1,8 +1,9 @@
 // Which terms, prices and figures may be settled, and which terms a programme lets an account agree on.
 
 ghost use Rattle.std.specs.Prelude.{◌≡◌};
-ghost use Rattle.programme.specs.Bounds.{allowed_terms, ends_by_midnight, from_readings, in_season, lawful_price, lawful_terms, most, quarters, settleable};
+ghost use Rattle.programme.specs.Bounds.{allowed_terms, ends_by_midnight, from_readings, in_season, lawful_price, lawful_terms, most, parts, quarters, settleable};
 
+use crate::dispatches::Dispatch;
 use crate::figures::{Figures, Fold};
 use crate::terms::Terms;
 
@@ -21,38 +22,43 @@ impl Terms {
     pub fn quarters(self) -> u16
         ensures { result ≡ quarters self }
     {
-        4 * self.hours as u16
+        4 * u16::from(self.hours)
     }
 
     // Whether some programme may have accepted these terms.
     pub fn lawful(self) -> bool
         ensures { result ≡ lawful_terms self }
     {
-        self.capacity_kw >= 100
-            && self.capacity_kw <= 200_000
-            && self.reduction_kw >= 1
-            && self.reduction_kw <= self.capacity_kw
-            && self.hours >= 2
-            && self.hours <= 6
+        (100..=200_000).contains(&self.capacity_kw)
+            && (1..=self.capacity_kw).contains(&self.reduction_kw)
+            && (2..=6).contains(&self.hours)
     }
 
     // Whether an event that starts at this quarter of the day ends by midnight.
     pub fn ends_by_midnight(self, start: u8) -> bool
         ensures { result ≡ ends_by_midnight self start }
     {
-        start as u16 + self.quarters() <= 96
+        u16::from(start) + self.quarters() <= 96
     }
 }
 
 impl Fold {
+    // How many readings' watts are added up in a figure over so many windows of n quarters.
+    pub fn parts(self, windows: u8, n: u16) -> u64
+        ensures { result ≡ parts self windows n }
+    {
+        let windows = u64::from(windows);
+        match self {
+            Fold::Sum => windows * u64::from(n),
+            Fold::Peak => windows,
+        }
+    }
+
     // The most that n lawful readings can make.
     pub fn most(self, n: u16) -> u64
         ensures { result ≡ most self n }
     {
-        match self {
-            Fold::Sum => n as u64 * LIMIT_WATTS,
-            Fold::Peak => LIMIT_WATTS,
-        }
+        self.parts(1, n) * LIMIT_WATTS
     }
 }
 
@@ -61,14 +67,16 @@ impl Figures {
     pub fn allows(self, terms: Terms) -> bool
         ensures { result ≡ allowed_terms self terms }
     {
-        terms.lawful() && terms.reduction_kw >= self.lowest_kw && self.hours[terms.hours as usize]
+        terms.lawful()
+            && terms.reduction_kw >= self.lowest_kw
+            && self.hours[usize::from(terms.hours)]
     }
 
     // Whether the programme has events in this calendar month, 1 to 12.
     pub fn in_season(self, month: u8) -> bool
         ensures { result ≡ in_season self month }
     {
-        self.first_month <= month && month <= self.last_month
+        (self.first_month..=self.last_month).contains(&month)
     }
 
     // Whether lawful readings can give these figures for an event of n quarters.
@@ -76,15 +84,15 @@ impl Figures {
         ensures { result ≡ from_readings self n baseline event_load }
     {
         let most = self.fold.most(n);
-        baseline <= self.baseline_days as u64 * most && event_load <= most
+        baseline <= u64::from(self.baseline_days) * most && event_load <= most
     }
 
-    // Whether an event can be settled from these terms, price and figures.
-    pub fn can_settle(self, terms: Terms, price: u16, baseline: u64, event_load: u64) -> bool
-        ensures { result ≡ settleable self terms price baseline event_load }
+    // Whether an event can be settled from these terms, this price and these figures.
+    pub fn can_settle(self, terms: Terms, dispatch: Dispatch) -> bool
+        ensures { result ≡ settleable self terms dispatch.price dispatch.baseline dispatch.event_load }
     {
         terms.lawful()
-            && lawful_price(price)
-            && self.can_measure(terms.quarters(), baseline, event_load)
+            && lawful_price(dispatch.price)
+            && self.can_measure(terms.quarters(), dispatch.baseline, dispatch.event_load)
     }
 }

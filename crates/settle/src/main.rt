@@ -4,7 +4,7 @@
 
 use account_text::account;
 use std::process::ExitCode;
-use std::{env, fs, io};
+use std::{env, fmt, fs, io};
 
 // Ends the program with status 1; why stands on standard error.
 #[derive(Drop)]
@@ -16,35 +16,34 @@ impl From<io::Error> for Stopped {
     }
 }
 
+impl Stopped {
+    // Says why the program ends; where that cannot be written, it ends all the same.
+    fn because(rt: &HostRuntime, why: impl fmt::Display + Drop) -> Stopped {
+        let _ = eprintln!(rt; "settle: {why}");
+        Stopped
+    }
+}
+
 // Settles the sheet that the arguments name.
 fn settle(rt: &HostRuntime) -> Result<(), Stopped> {
-    let mut args = env::args(rt)?;
-    let _program = args.next();
-    let Some(file) = args.next() else {
-        eprintln!(rt; "settle: no sheet is named; usage: settle SHEET")?;
-        return Err(Stopped);
-    };
+    let mut args = env::args(rt)?.skip(1);
+    let file = args.next().ok_or_else(|| Stopped::because(
+        rt,
+        "no sheet is named; usage: settle SHEET",
+    ))?;
     if args.next().is_some() {
-        eprintln!(rt; "settle: more than one sheet is named; usage: settle SHEET")?;
-        return Err(Stopped);
+        return Err(Stopped::because(rt, "more than one sheet is named; usage: settle SHEET"));
     }
-    let bytes = match fs::read(rt, file.as_str()) {
-        Ok(bytes) => bytes,
-        Err(fault) => {
-            eprintln!(rt; "settle: {file}: cannot be read: {fault}")?;
-            return Err(Stopped);
-        }
-    };
-    match account(rt.alloc(), bytes.as_slice()) {
-        Ok(text) => {
-            print!(rt; "{text}")?;
-            Ok(())
-        }
-        Err(fault) => {
-            eprintln!(rt; "settle: {file}: {fault}")?;
-            Err(Stopped)
-        }
-    }
+    let bytes = fs::read(rt, file.as_str()).map_err(|fault| Stopped::because(
+        rt,
+        format_args!("{file}: cannot be read: {fault}"),
+    ))?;
+    let text = account(rt.alloc(), bytes.as_slice()).map_err(|fault| Stopped::because(
+        rt,
+        format_args!("{file}: {fault}"),
+    ))?;
+    print!(rt; "{text}")?;
+    Ok(())
 }
 
 fn main(rt: HostRuntime) -> ExitCode {

@@ -1,54 +1,30 @@
 -- What an agreement and an event that pass their checks are known to keep.
-use Rattle.std.proofs.Common.{◌≡◌, ℕ, ◌+◌, ◌*◌, ◌<◌, ◌≤◌, Bool, true, false, not, List, [], ◌∷◌, length, get_or, take, sym, refl, ap, ◌∙◌, subst, mul-le-mul_right, add-one, arith, lit<, lit≤, length-take}
-use Rattle.std.specs.List.{AllByRecursion}
+use Rattle.std.proofs.Common.{◌≡◌, ℕ, ◌+◌, ◌*◌, ◌<◌, ◌≤◌, true, All, List, length, get_or, map, take, Result, Ok, Err, Some, MatchResult, sym, ap, ◌∙◌, mul-le-mul_right, rules, arith, lit≤}
+use Rattle.std.specs.Result.{is_ok}
+use Rattle.std.proofs.lemmas.Bool.{false≢true}
 use Rattle.std.proofs.lemmas.Bool.Decides.{nat_tests}
-use Rattle.programme.specs.Bounds.{allowed_terms, from_readings, lawful_price, lawful_terms, quarters, settleable}
+use Rattle.std.proofs.lemmas.List.{get_or-map, take-map}
+use Rattle.refusal.specs.Answers.{plain, told}
+use Rattle.refusal.proofs.Numbers.{numbered}
+use Rattle.refusal.specs.declared.refusals.Answer.{Answer}
+use Rattle.refusal.specs.declared.refusals.Refusal.{Refusal}
+use Rattle.programme.specs.Bounds.{settleable}
 use Rattle.programme.specs.Programmes.{meaning_of}
 use Rattle.programme.specs.declared.codes.Code.{Code}
 use Rattle.programme.specs.declared.codes.Code.TheVariants.{Economic, JointBidding, Reliable}
 use Rattle.programme.specs.declared.figures.Figures.{Figures}
 use Rattle.programme.specs.declared.terms.Terms.{Terms}
-use Rattle.settlement.specs.Checks.{agreement_test, agreement_tests, event_test, event_tests, first_met}
-use Rattle.settlement.specs.Month.{Passed}
+use Rattle.settlement.specs.Checks.{agreement_test, event_test}
+use Rattle.settlement.specs.Month.{Names, Passed}
 use Rattle.settlement.specs.declared.events.Agreement.{Agreement}
 use Rattle.settlement.specs.declared.events.Event.{Event}
+use Rattle.settlement.specs.declared.events.Refused.{Refused}
 
--- where no numbered test is met, each is false
-none_met : (tests : List (Bool × ℕ)) → AllByRecursion (λ test. 0 < test.1) tests → first_met tests ≡ 0 → AllByRecursion (λ test. test.0 ≡ false) tests
-none_met [] h e = tt
-none_met ((b, n) ∷ tests) h e = by b refl (λ w. none_met tests h.1 (rw w at e))
-  where
-    by : (v : Bool) → b ≡ v → (b ≡ false → AllByRecursion (λ test. test.0 ≡ false) tests) → AllByRecursion (λ test. test.0 ≡ false) ((b, n) ∷ tests)
-    by true w rest = let z : n ≡ 0 = rw w at e in absurd (omega (arith, h.0))
-    by false w rest = (w, rest w)
+hours_low : (a : Agreement) → agreement_test a ≡ 0 → 2 ≤ a.terms.hours
+hours_low a h = grind (arith, nat_tests)
 
-not_false : (b : Bool) → not b ≡ false → b ≡ true
-not_false true h = refl
-not_false false h = sym h
-
-pub record Agreed (a : Agreement) : Type 0 where
-  pub lawful : lawful_terms a.terms ≡ true
-  pub hours_low : 2 ≤ a.terms.hours
-
-pub agreed : (a : Agreement) → agreement_test a ≡ 0 → Agreed a
-agreed a h =
-    let allowed : allowed_terms (meaning_of a.code).figures a.terms ≡ true = not_false _ (none_met (agreement_tests a) (lit< tt, (lit< tt, tt)) h).1.0 in
-    let lawful : lawful_terms a.terms ≡ true = grind (arith, nat_tests) in
-    record { lawful = lawful; hours_low = grind (arith, nat_tests) }
-
-pub record Passes (f : Figures) (t : Terms) (earlier : List Event) (e : Event) : Type 0 where
-  pub figures : from_readings f (quarters t) e.baseline e.event_load ≡ true
-  pub price : lawful_price e.price ≡ true
-  pub cap : t.hours * (length earlier + 1) ≤ f.cap_hours
-
-pub passes : (f : Figures) (t : Terms) (earlier : List Event) (e : Event) → event_test f t earlier e ≡ 0 → Passes f t earlier e
-passes f t earlier e h =
-    let met = none_met (event_tests f t earlier e) (lit< tt, (lit< tt, (lit< tt, (lit< tt, (lit< tt, (lit< tt, (lit< tt, (lit< tt, tt)))))))) h in
-    let cap = met.1.1.1.1.1.1.1.0 in
-    record { figures = not_false _ met.0; price = not_false _ met.1.0; cap = grind (arith, nat_tests) }
-
-pub can_settle : (f : Figures) (t : Terms) (earlier : List Event) (e : Event) → lawful_terms t ≡ true → event_test f t earlier e ≡ 0 → settleable f t e.price e.baseline e.event_load ≡ true
-can_settle f t earlier e l h = let p = passes f t earlier e h in rw (l, p.price, p.figures)
+in_cap : (f : Figures) (t : Terms) (earlier : List Event) (e : Event) → event_test f t earlier e ≡ 0 → t.hours * (length earlier + 1) ≤ f.cap_hours
+in_cap f t earlier e h = grind (arith, nat_tests)
 
 cap_most : (code : Code) → (meaning_of code).figures.cap_hours ≤ 36
 cap_most Economic = lit≤ tt
@@ -58,23 +34,37 @@ cap_most Reliable = lit≤ tt
 -- a month has at most 18 events: each takes two hours or more of a cap of at most 36
 pub few : (a : Agreement) (earlier : List Event) (e : Event) → agreement_test a ≡ 0 → event_test (meaning_of a.code).figures a.terms earlier e ≡ 0 → length earlier + 1 ≤ 18
 few a earlier e h p =
-    let hours = mul-le-mul_right (length earlier + 1) (agreed a h).hours_low in
-    omega (arith, (passes (meaning_of a.code).figures a.terms earlier e p).cap, cap_most a.code)
+    let hours = mul-le-mul_right (length earlier + 1) (hours_low a h) in
+    omega (arith, in_cap (meaning_of a.code).figures a.terms earlier e p, cap_most a.code)
 
-module _ (a : Agreement) (es : List Event) (passed : Passed a es (length es)) where
-  pub month_few : length es ≤ 18
-  month_few = by es refl
-    where
-      by : (xs : List Event) → es ≡ xs → length es ≤ 18
-      by [] w = rw w (lit≤ tt)
-      by (x ∷ xs) w =
-          let count : length es ≡ length xs + 1 = ap length w ∙ sym (add-one (length xs)) in
-          let last = few a (take (length xs) es) (get_or es (length xs) x) passed.0 (passed.1 (length xs) (omega arith) x) in
-          omega (arith, count, length-take (length xs) es)
+-- a call that was accepted met no test
+accepted : {T : Type 0} (r : Result T Refusal) (n : ℕ) → is_ok r ≡ true → told r ≡ plain n → n ≡ 0
+accepted (Ok v) n ok t = sym (ap (λ (a : Answer). a.number) t)
+accepted (Err e) n ok t = absurd (false≢true ok)
 
-  -- each event can be settled, whatever name its programme goes by
-  pub month_ready : (code : Code) → a.code ≡ code → (i : ℕ) (e : Event) → i < length es →
-      settleable (meaning_of code).figures a.terms (get_or es i e).price (get_or es i e).baseline (get_or es i e).event_load ≡ true
-  month_ready code is i e h =
-      subst (λ (k : Code). settleable (meaning_of k).figures a.terms (get_or es i e).price (get_or es i e).baseline (get_or es i e).event_load ≡ true) is
-      (can_settle (meaning_of a.code).figures a.terms (take i es) (get_or es i e) (agreed a passed.0).lawful (passed.1 i h e))
+-- what the event of a place meets, after the events before it
+pub meets_at : {X T : Type 0} (f : Figures) (t : Terms) (event : X → Event) (xs : List X) (i : ℕ) (x : X) (r : Result T Refusal) →
+    i < length xs → x ≡ get_or xs i x → told r ≡ plain (event_test f t (map event (take i xs)) (event x)) → (d : Event) → told r ≡ plain (event_test f t (take i (map event xs)) (get_or (map event xs) i d))
+meets_at f t event xs i x r within is meets d =
+    let place : get_or (map event xs) i d ≡ event x = get_or-map event xs i x d within ∙ sym (ap event is) in
+    rw (take-map event i xs, place) meets
+
+-- the event of a place passes, after the events before it
+pub passes_at : {T : Type 0} (f : Figures) (t : Terms) (es : List Event) (i : ℕ) (r : Result T Refusal) →
+    is_ok r ≡ true → ((d : Event) → told r ≡ plain (event_test f t (take i es) (get_or es i d))) → (d : Event) → event_test f t (take i es) (get_or es i d) ≡ 0
+passes_at f t es i r ok meets d = accepted r _ ok (meets d)
+
+-- a refusal of the event of a place names it
+pub names_at : {T : Type 0} (a : Agreement) (es : List Event) (i : ℕ) (r : Result T Refusal) (refused : Refused) →
+    MatchResult r (λ x. Err refused ≡ Ok x) (λ e. refused ≡ record { event = Some i; refusal = e }) →
+    i < length es → Passed a es i → ((d : Event) → told r ≡ plain (event_test (meaning_of a.code).figures a.terms (take i es) (get_or es i d))) → Names a es refused
+names_at a es i (Ok v) refused is within passed meets = search rules
+names_at a es i (Err e) refused is within passed meets = rw is ((within, passed, λ d. ap (λ (x : Answer). x.number) (meets d)), numbered e)
+
+-- the events of a month that passes can be settled
+pub settleable_each : {X : Type 0} (a : Agreement) (event : X → Event) (xs : List X) (n : ℕ) → n ≡ length xs → Passed a (map event xs) n → (code : Code) → a.code ≡ code →
+    All (λ x. settleable (meaning_of code).figures a.terms (event x).dispatch.price (event x).dispatch.baseline (event x).dispatch.event_load ≡ true) xs
+settleable_each a event xs n all passed code is k d within =
+    let here : event_test (meaning_of a.code).figures a.terms (take k (map event xs)) (event (get_or xs k d)) ≡ 0 =
+    rw (sym (get_or-map event xs k d (event d) within)) (passed.1 k (rw all within) (event d)) in
+    grind (arith, nat_tests)

@@ -1,5 +1,6 @@
 -- The checks of an agreement and of an event: each has a number, they are made in rising order, and the first that is met refuses.
-use Rattle.std.specs.Prelude.{ℕ, ◌+◌, ◌*◌, Bool, false, cond, not, ◌&&◌, ◌||◌, List, [], ◌∷◌, length, ◌==◌, nat_lt}
+use Rattle.std.specs.Prelude.{ℕ, ◌+◌, ◌*◌, Bool, cond, not, ◌&&◌, List, [], ◌∷◌, length, ◌==◌, nat_lt}
+use Rattle.std.specs.List.{list_any}
 use Rattle.calendar.specs.Months.{calendar_month, month_of}
 use Rattle.calendar.specs.Weekdays.{monday_to_friday, weekday_of}
 use Rattle.programme.specs.Bounds.{allowed_terms, ends_by_midnight, from_readings, in_season, lawful_price, quarters}
@@ -24,21 +25,20 @@ agreement_test a = first_met (agreement_tests a)
 
 -- One of the events is on that day.
 abbrev pub called_on : List Event → ℕ → Bool
-called_on [] day = false
-called_on (e ∷ es) day = e.day.number == day || called_on es day
+called_on es day = list_any (λ e. e.day.number == day) es
 
 -- What an event meets, after the earlier events of its month: figures that no lawful readings give (6), a price above 1,000 (10),
 -- another event that day (13), a Saturday or Sunday (15), a month of the year that is none of the programme's (16),
 -- a window past midnight (17), a late notice where none is taken (18), hours of the month above the cap (19).
 abbrev pub event_tests : Figures → Terms → List Event → Event → List (Bool × ℕ)
 event_tests f t earlier e =
-    (not (from_readings f (quarters t) e.baseline e.event_load), 6)
-    ∷ (not (lawful_price e.price), 10)
+    (not (from_readings f (quarters t) e.dispatch.baseline e.dispatch.event_load), 6)
+    ∷ (not (lawful_price e.dispatch.price), 10)
     ∷ (called_on earlier e.day.number, 13)
     ∷ (not (monday_to_friday (weekday_of e.day.number)), 15)
     ∷ (not (in_season f (calendar_month (month_of e.day.number))), 16)
     ∷ (not (ends_by_midnight t e.start.number), 17)
-    ∷ (e.late && not f.late_notices, 18)
+    ∷ (e.dispatch.late && not f.late_notices, 18)
     ∷ (nat_lt f.cap_hours (t.hours * (length earlier + 1)), 19)
     ∷ []
 

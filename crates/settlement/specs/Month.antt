@@ -12,7 +12,7 @@ use Rattle.settlement.specs.declared.events.Totals.{Totals}
 
 -- Credit, surcharge and missed of one event, by a programme's event function.
 abbrev pub amounts : Meaning → Terms → Event → ℕ × ℕ × ℕ
-amounts m t e = m.event t e.price e.late e.baseline e.event_load
+amounts m t e = m.event t e.dispatch.price e.dispatch.late e.dispatch.baseline e.dispatch.event_load
 
 -- How many of the events were missed.
 abbrev pub missed_of : Meaning → Terms → List Event → ℕ

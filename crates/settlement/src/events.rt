@@ -1,7 +1,7 @@
 // What is settled, and what comes of it.
 
 use calendar::{Day, Quarter};
-use programme::{Code, Terms};
+use programme::{Code, Dispatch, Terms};
 use refusal::Refusal;
 
 // What an account agreed on, and under which programme.
@@ -17,13 +17,7 @@ pub struct Agreement {
 pub struct Event {
     pub day: Day,
     pub start: Quarter,
-    pub late: bool,
-    // in hundredths of a dollar per kWh
-    pub price: u16,
-    // the windows of the baseline days, measured and added up, in W
-    pub baseline: u64,
-    // the window of the event's day, measured, in W
-    pub event_load: u64,
+    pub dispatch: Dispatch,
 }
 
 // What a month comes to, in dollars.

@@ -2,9 +2,11 @@
 
 #![tactic(auto)]
 
+mod called;
 mod checks;
 mod events;
 mod totals;
 
+pub use called::Called;
 pub use events::{Agreement, Event, Refused, Totals};
 pub use totals::{settle_month, worked_amounts, worked_figures};

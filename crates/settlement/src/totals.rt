@@ -1,51 +1,26 @@
 // Settling a month: the checks first, then the amounts.
 
-ghost use Rattle.std.specs.Prelude.{◌≡◌, ℕ, ◌<◌, ◌≤◌, true, length, MatchResult, slice_index_or};
+ghost use Rattle.std.specs.Prelude.{◌≡◌, ◌≤◌, true, length, map, All};
 ghost use Rattle.programme.specs.Bounds.{lawful_terms, settleable};
-ghost use Rattle.settlement.specs.Checks.{agreement_test};
-ghost use Rattle.settlement.specs.Month.{Names, Passed, Settles, totals};
+ghost use Rattle.settlement.specs.Month.{Settles, totals};
 ghost use Rattle.settlement.specs.Worked.{WorkedFigures};
-ghost use Rattle.settlement.specs.declared.events.Event.{Event as Called};
 
-use crate::checks::check_event;
-use crate::events::{Agreement, Event, Refused, Totals};
-use programme::{Code, Economic, JointBidding, Programme, Reliable, Terms};
-
-// The first event that is refused, if any.
-fn check_events(agreement: Agreement, events: &[Event]) -> Result<(), Refused>
-    requires { agreement_test agreement ≡ 0 }
-    ensures { MatchResult result (λ _. Passed agreement events.now (length events.now)) (Names agreement events.now) }
-{
-    let figures = agreement.code.figures();
-    for (i, event) in events.iter().enumerate() {
-        if let Err(refusal) = check_event(figures, agreement.terms, &events[0..i], *event) {
-            return Err(Refused {
-                event: Some(i),
-                refusal,
-            });
-        }
-    }
-    Ok(())
-}
+use crate::called::Called;
+use crate::events::{Agreement, Refused, Totals};
+use programme::{Code, Dispatch, Economic, JointBidding, Programme, Reliable, Terms};
 
 // The amounts of a month's events, which are few and can all be settled.
-fn add_up<P: Programme>(terms: Terms, events: &[Event]) -> Totals
+fn add_up<P: Programme, E: Called>(terms: Terms, events: &[E]) -> Totals
     requires few { length events.now ≤ 18 }
     requires lawful { lawful_terms terms ≡ true }
-    requires each { (i : ℕ) (e : Called) → i < length events.now → settleable P.Programme.meaning.figures terms (slice_index_or events.now i e).price (slice_index_or events.now i e).baseline (slice_index_or events.now i e).event_load ≡ true }
-    ensures { result ≡ totals P.Programme.meaning terms events.now }
+    requires each { All (λ e. settleable P.Programme.meaning.figures terms (E.event e).dispatch.price (E.event e).dispatch.baseline (E.event e).dispatch.event_load ≡ true) events.now }
+    ensures { result ≡ totals P.Programme.meaning terms (map E.event events.now) }
 {
     let mut missed: u8 = 0;
     let mut credits: u64 = 0;
     let mut surcharges: u64 = 0;
-    for event in events {
-        let (credit, surcharge, miss) = P::event(
-            terms,
-            event.price,
-            event.late,
-            event.baseline,
-            event.event_load,
-        );
+    for called in events {
+        let (credit, surcharge, miss) = P::event(terms, called.event().dispatch);
         credits += credit;
         surcharges += surcharge;
         missed += miss as u8;
@@ -62,25 +37,25 @@ fn add_up<P: Programme>(terms: Terms, events: &[Event]) -> Totals
 }
 
 // What the month comes to; or which event is refused first, and why.
-pub fn settle_month(agreement: Agreement, events: &[Event]) -> Result<Totals, Refused>
-    ensures { Settles agreement events.now result }
+pub fn settle_month<E: Called>(agreement: Agreement, events: &[E]) -> Result<Totals, Refused>
+    ensures { Settles agreement (map E.event events.now) result }
 {
-    if let Err(refusal) = agreement.check() {
-        return Err(Refused {
-            event: None,
-            refusal,
-        });
-    }
-    check_events(agreement, events)?;
+    agreement.check().map_err(|refusal| Refused {
+        event: None,
+        refusal,
+    })?;
+    agreement.check_events(events)?;
     let terms = agreement.terms;
+    // each arm adds up by a type of its own, and a letter is known to name one only here
     match agreement.code {
-        Code::Economic => Ok(add_up::<Economic>(terms, events)),
-        Code::JointBidding => Ok(add_up::<JointBidding>(terms, events)),
-        Code::Reliable => Ok(add_up::<Reliable>(terms, events)),
+        Code::Economic => Ok(add_up::<Economic, E>(terms, events)),
+        Code::JointBidding => Ok(add_up::<JointBidding, E>(terms, events)),
+        Code::Reliable => Ok(add_up::<Reliable, E>(terms, events)),
     }
 }
 
 // The worked examples, as a theorem of the definitions above.
+#[tactic(auto, unfolding(calendar::specs::Months::first_day))]
 pub fn worked_figures()
     ensures { WorkedFigures }
 {}
@@ -96,6 +71,12 @@ pub fn worked_amounts() -> (u64, u64)
         reduction_kw: 300,
         hours: 4,
     };
-    let (credit, _, _) = Economic::event(terms, 600, false, 28_800_000, 0);
+    let dispatch = Dispatch {
+        price: 600,
+        late: false,
+        baseline: 28_800_000,
+        event_load: 0,
+    };
+    let (credit, _, _) = Economic::event(terms, dispatch);
     (credit, Reliable::basic(terms, 7, 1))
 }

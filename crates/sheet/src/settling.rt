@@ -8,16 +8,13 @@ use settlement::{Totals, settle_month};
 use sheet_words::{LineFault, SheetFault};
 
 impl Sheet {
-    // The line of an event, 0 where it has none; or the line of the agreement where no event is named.
-    pub fn line_of(&self, event: Option<usize>) -> usize
+    // The line of an event, if the sheet has that event; or the line of the agreement where no event is named.
+    pub fn line_of(&self, event: Option<usize>) -> Option<usize>
         ensures { result ≡ line_at self.now event }
     {
         match event {
-            Some(i) => match self.lines.get(i) {
-                Some(line) => *line,
-                None => 0,
-            },
-            None => self.header.refused_line(),
+            Some(i) => self.events.get(i).map(|noted| noted.line),
+            None => Some(self.header.refused_line()),
         }
     }
 
@@ -25,12 +22,11 @@ impl Sheet {
     pub fn settle(&self) -> Result<Totals, SheetFault>
         ensures { Settled self.now result }
     {
-        match settle_month(self.header.agreement, self.events.as_slice()) {
-            Ok(totals) => Ok(totals),
-            Err(refused) => Err(SheetFault::Line {
-                line: self.line_of(refused.event),
+        settle_month(self.header.agreement, self.events.as_slice()).map_err(|refused| {
+            SheetFault::Line {
+                line: self.line_of(refused.event).unwrap(),
                 fault: LineFault::Refused(refused.refusal),
-            }),
-        }
+            }
+        })
     }
 }

@@ -1,12 +1,10 @@
 // A month's sheet.
 
 use settlement::Event;
-use sheet_values::Header;
+use sheet_values::{Header, Noted};
 
 #[derive(Drop)]
 pub struct Sheet {
     pub header: Header,
-    pub events: Vec<Event>,
-    // the line of each event
-    pub lines: Vec<usize>,
+    pub events: Vec<Noted<Event>>,
 }

@@ -2,16 +2,16 @@
 
 use settlement::Totals;
 use sheet::Sheet;
-use sheet_words::SheetFault;
 use std::alloc::Global;
 use std::test::Fail;
 
 const ECONOMIC: &str =
     "programme E\naccount 1\nmonth 2026-07\ncapacity 500\nreduction 300\nhours 4\n";
 
-fn settled(heap: Global, text: &[u8]) -> Result<Totals, SheetFault> {
-    let sheet = Sheet::read(heap, text)?;
-    sheet.settle()
+fn settled(heap: Global, text: &[u8]) -> Result<Totals, Fail> {
+    Sheet::read(heap, text)
+        .and_then(|sheet| sheet.settle())
+        .map_err(|_| Fail::new("refused"))
 }
 
 // A saving, as the baseline to a load of 0, and what it pays at 6.00 dollars.
@@ -72,24 +72,18 @@ const CASES: [Case; 9] = [
 #[test]
 fn economic_events_pay(rt: HostRuntime) -> Result<(), Fail> {
     let heap = rt.alloc();
-    for case in CASES.iter() {
+    for case in &CASES {
         let text = format!(in heap;
             "{ECONOMIC}event 2026-07-06 13:00 {} 6.00 {} 0\n",
             case.notice, case.saving
         )?;
-        match settled(heap, text.as_bytes()) {
-            Ok(totals) => assert_eq!(rt; totals.credits, case.credit),
-            Err(_) => return Err(Fail::new("refused")),
-        }
+        assert_eq!(rt; settled(heap, text.as_bytes())?.credits, case.credit);
     }
     Ok(())
 }
 
 fn amounts(heap: Global, text: &[u8]) -> Result<(u64, u64, u64), Fail> {
-    match settled(heap, text) {
-        Ok(totals) => Ok((totals.basic, totals.credits, totals.surcharges)),
-        Err(_) => Err(Fail::new("refused")),
-    }
+    settled(heap, text).map(|totals| (totals.basic, totals.credits, totals.surcharges))
 }
 
 const RELIABLE: &str =

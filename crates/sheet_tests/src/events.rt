@@ -187,7 +187,7 @@ fn judged(heap: Global, case: &Case) -> Result<String, AllocError> {
 
 #[test]
 fn events_are_judged(rt: HostRuntime) -> Result<(), Fail> {
-    for case in CASES.iter() {
+    for case in &CASES {
         let answer = judged(rt.alloc(), case)?;
         assert_eq!(rt; answer.as_str(), case.says);
     }

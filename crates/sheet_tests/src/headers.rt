@@ -6,10 +6,10 @@ use std::test::Fail;
 
 // What is said of a sheet: its fault, or that it is settled.
 pub fn said(heap: Global, text: &[u8]) -> Result<String, AllocError> {
-    match account(heap, text) {
-        Ok(_) => String::from_str(heap, "settled"),
-        Err(fault) => format!(in heap; "{fault}"),
-    }
+    account(heap, text).map_or_else(
+        |fault| format!(in heap; "{fault}"),
+        |_| String::from_str(heap, "settled"),
+    )
 }
 
 struct Case {
@@ -119,7 +119,7 @@ const CASES: [Case; 24] = [
 
 #[test]
 fn headers_are_judged(rt: HostRuntime) -> Result<(), Fail> {
-    for case in CASES.iter() {
+    for case in &CASES {
         let answer = said(rt.alloc(), case.text.as_bytes())?;
         assert_eq!(rt; answer.as_str(), case.says);
     }
@@ -168,7 +168,7 @@ const REFUSED: [Case; 9] = [
 
 #[test]
 fn agreements_are_checked(rt: HostRuntime) -> Result<(), Fail> {
-    for case in REFUSED.iter() {
+    for case in &REFUSED {
         let answer = said(rt.alloc(), case.text.as_bytes())?;
         assert_eq!(rt; answer.as_str(), case.says);
     }

@@ -114,7 +114,7 @@ const CASES: [Case; 20] = [
 
 #[test]
 fn numbers_are_read(rt: HostRuntime) {
-    for case in CASES.iter() {
+    for case in &CASES {
         assert_eq!(rt;
             read(case.text.as_bytes(), case.places),
             case.reads,

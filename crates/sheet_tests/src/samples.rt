@@ -115,10 +115,8 @@ fn accounts_are_printed(rt: HostRuntime) -> Result<(), Fail> {
         (NO_EVENTS, NO_EVENTS_ACCOUNT),
     ];
     for (sheet, printed) in table {
-        match account(rt.alloc(), sheet.as_bytes()) {
-            Ok(text) => assert_eq!(rt; text.as_str(), printed),
-            Err(_) => return Err(Fail::new("refused")),
-        }
+        let text = account(rt.alloc(), sheet.as_bytes()).map_err(|_| Fail::new("refused"))?;
+        assert_eq!(rt; text.as_str(), printed);
     }
     Ok(())
 }

@@ -21,9 +21,9 @@ pub record EventText (h : Header) (date start notice price baseline load : List 
   pub on_date : date ≡ date_text e.day.number
   pub in_month : month_of e.day.number ≡ h.month.number
   pub starts : start ≡ time_text e.start.number
-  pub notified : notice ≡ notice_text e.late
-  pub priced : (n : ℕ) × Spells 2 price n × (e.price ≡ min n 65535)
+  pub notified : notice ≡ notice_text e.dispatch.late
+  pub priced : (n : ℕ) × Spells 2 price n × (e.dispatch.price ≡ min n 65535)
   pub based : (f : Figure) × FigureText baseline f
-      × (e.baseline ≡ baseline_of (meaning_of h.agreement.code).figures.baseline_days (meaning_of h.agreement.code).figures.fold (quarters h.agreement.terms) f)
+      × (e.dispatch.baseline ≡ baseline_of (meaning_of h.agreement.code).figures.baseline_days (meaning_of h.agreement.code).figures.fold (quarters h.agreement.terms) f)
   pub loaded : (f : Figure) × FigureText load f
-      × (e.event_load ≡ load_of (meaning_of h.agreement.code).figures.fold (quarters h.agreement.terms) f)
+      × (e.dispatch.event_load ≡ load_of (meaning_of h.agreement.code).figures.fold (quarters h.agreement.terms) f)

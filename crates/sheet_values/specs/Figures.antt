@@ -1,7 +1,7 @@
 -- What the figures of an event mean, as a demand in kW or as the figure itself.
 use Rattle.std.specs.Prelude.{◌≡◌, ℕ, ◌-◌, ◌*◌, ◌^◌, min, List, ◌++◌, codes}
 use Rattle.programme.specs.declared.figures.Fold.{Fold}
-use Rattle.programme.specs.declared.figures.Fold.TheVariants.{Sum, Peak}
+use Rattle.programme.specs.Bounds.{parts}
 use Rattle.decimals.specs.Numerals.{Spells}
 use Rattle.sheet_values.specs.declared.measured.Figure.{Figure}
 use Rattle.sheet_values.specs.declared.measured.Figure.TheVariants.{Demand, Total}
@@ -10,20 +10,18 @@ use Rattle.sheet_values.specs.declared.measured.Figure.TheVariants.{Demand, Tota
 abbrev pub capped : ℕ → ℕ
 capped n = min n (2 ^ 64 - 1)
 
--- What k windows of n readings of w watts each come to: the readings added up, or the largest of each window added up.
-abbrev pub windows : ℕ → Fold → ℕ → ℕ → ℕ
-windows k Sum n w = w * (k * n)
-windows k Peak n w = w * k
+-- A demand enters a figure as many times as readings are added up in it; a figure itself stands as it is.
+abbrev pub over : ℕ → Figure → ℕ
+over parts (Demand w) = capped (w * parts)
+over parts (Total x) = x
 
 -- An event's load is that of one window.
 abbrev pub load_of : Fold → ℕ → Figure → ℕ
-load_of fold n (Demand w) = capped (windows 1 fold n w)
-load_of fold n (Total x) = x
+load_of fold n figure = over (parts fold 1 n) figure
 
 -- The baseline is that of the windows of the programme's baseline days.
 abbrev pub baseline_of : ℕ → Fold → ℕ → Figure → ℕ
-baseline_of days fold n (Demand w) = capped (windows days fold n w)
-baseline_of days fold n (Total x) = x
+baseline_of days fold n figure = over (parts fold days n) figure
 
 -- A demand is written in kW with up to three decimals and the suffix, so that it counts watts; a figure itself as a whole number.
 abbrev pub FigureText : List ℕ → Figure → Type 0

@@ -2,3 +2,4 @@ pub mod Drafts
 pub mod Events
 pub mod Figures
 pub mod Headers
+pub mod Numbers

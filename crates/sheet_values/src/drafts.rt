@@ -6,9 +6,8 @@ ghost use Rattle.sheet_values.specs.Drafts.{is_blank, Completes, Lacks, NamesMon
 
 use crate::headers::{Header, HeaderLines};
 use crate::noted::{Draft, Noted};
-use crate::numbers::{fit_u8, fit_u32, number};
+use crate::numbers::count;
 use calendar::Month;
-use decimals::Places;
 use programme::{Code, Terms};
 use settlement::Agreement;
 use sheet_words::{Complaint, LineFault, Word, blame};
@@ -17,22 +16,16 @@ use std::alloc::Global;
 fn read_code(heap: Global, text: &str) -> Result<Code, LineFault>
     ensures { IfOk result (λ code. text.now ≡ letter_of code ∷ []) }
 {
-    let letters = text.as_bytes();
-    if letters.len() == 1 {
-        if let Some(code) = Code::from_letter(letters[0] as char) {
-            return Ok(code);
-        }
-    }
-    Err(blame(heap, text, Complaint::UnknownProgramme))
+    text.parse()
+        .ok()
+        .and_then(|letter: char| Code::try_from(letter).ok())
+        .ok_or_else(|| blame(heap, text, Complaint::UnknownProgramme))
 }
 
 fn read_month(heap: Global, text: &str) -> Result<Month, LineFault>
     ensures { IfOk result (λ month. NamesMonth text.now month) }
 {
-    match Month::read(text.as_bytes()) {
-        Some(month) => Ok(month),
-        None => Err(blame(heap, text, Complaint::NoMonth)),
-    }
+    Month::read(text.as_bytes()).ok_or_else(|| blame(heap, text, Complaint::NoMonth))
 }
 
 // Notes a value, if none is noted yet.
@@ -58,20 +51,14 @@ impl Draft {
     pub fn new() -> Draft
         ensures { result ≡ record { code = None; account = None; month = None; capacity = None; reduction = None; hours = None } }
     {
-        Draft {
-            code: None,
-            account: None,
-            month: None,
-            capacity: None,
-            reduction: None,
-            hours: None,
-        }
+        Draft::default()
     }
 
     // Whether no word of the header is read yet.
     pub fn is_empty(&self) -> bool
         ensures { result ≡ is_blank self.now }
     {
+        // no `==` with the empty draft, since `Code` has no equality
         self.code.is_none()
             && self.account.is_none()
             && self.month.is_none()
@@ -92,31 +79,16 @@ impl Draft {
     {
         match word {
             Word::Programme => note(&mut self.code, word, read_code(heap, text)?, line),
-            Word::Account => note(
-                &mut self.account,
-                word,
-                fit_u8(number(heap, text, Places::Zero)?),
-                line,
-            ),
+            Word::Account => note(&mut self.account, word, count(heap, text, u8::MAX)?, line),
             Word::Month => note(&mut self.month, word, read_month(heap, text)?, line),
-            Word::Capacity => note(
-                &mut self.capacity,
-                word,
-                fit_u32(number(heap, text, Places::Zero)?),
-                line,
-            ),
+            Word::Capacity => note(&mut self.capacity, word, count(heap, text, u32::MAX)?, line),
             Word::Reduction => note(
                 &mut self.reduction,
                 word,
-                fit_u32(number(heap, text, Places::Zero)?),
+                count(heap, text, u32::MAX)?,
                 line,
             ),
-            Word::Hours => note(
-                &mut self.hours,
-                word,
-                fit_u8(number(heap, text, Places::Zero)?),
-                line,
-            ),
+            Word::Hours => note(&mut self.hours, word, count(heap, text, u8::MAX)?, line),
             Word::Event => Ok(()),
         }
     }
@@ -125,24 +97,12 @@ impl Draft {
     pub fn complete(&self) -> Result<Header, Word>
         ensures { MatchResult result (λ header. Completes self.now header) (λ word. Lacks self.now word) }
     {
-        let Some(code) = self.code else {
-            return Err(Word::Programme);
-        };
-        let Some(account) = self.account else {
-            return Err(Word::Account);
-        };
-        let Some(month) = self.month else {
-            return Err(Word::Month);
-        };
-        let Some(capacity) = self.capacity else {
-            return Err(Word::Capacity);
-        };
-        let Some(reduction) = self.reduction else {
-            return Err(Word::Reduction);
-        };
-        let Some(hours) = self.hours else {
-            return Err(Word::Hours);
-        };
+        let code = self.code.ok_or(Word::Programme)?;
+        let account = self.account.ok_or(Word::Account)?;
+        let month = self.month.ok_or(Word::Month)?;
+        let capacity = self.capacity.ok_or(Word::Capacity)?;
+        let reduction = self.reduction.ok_or(Word::Reduction)?;
+        let hours = self.hours.ok_or(Word::Hours)?;
         let terms = Terms {
             capacity_kw: capacity.value,
             reduction_kw: reduction.value,

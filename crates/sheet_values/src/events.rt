@@ -6,29 +6,24 @@ ghost use Rattle.sheet_values.specs.Events.{EventText, notice_text};
 
 use crate::headers::Header;
 use crate::measured::Figure;
-use crate::numbers::{fit_u16, number};
+use crate::numbers::{fitted, number};
 use calendar::{Day, Quarter};
 use decimals::Places;
+use programme::Dispatch;
 use settlement::Event;
-use sheet_words::{Complaint, LineFault, blame};
+use sheet_words::{Complaint, EventWords, LineFault, blame};
 use std::alloc::Global;
 
 fn read_day(heap: Global, text: &str) -> Result<Day, LineFault>
     ensures { IfOk result (λ day. text.now ≡ date_text day.number) }
 {
-    match Day::read(text.as_bytes()) {
-        Some(day) => Ok(day),
-        None => Err(blame(heap, text, Complaint::NoDate)),
-    }
+    Day::read(text.as_bytes()).ok_or_else(|| blame(heap, text, Complaint::NoDate))
 }
 
 fn read_start(heap: Global, text: &str) -> Result<Quarter, LineFault>
     ensures { IfOk result (λ quarter. text.now ≡ time_text quarter.number) }
 {
-    match Quarter::read(text.as_bytes()) {
-        Some(quarter) => Ok(quarter),
-        None => Err(blame(heap, text, Complaint::NoTime)),
-    }
+    Quarter::read(text.as_bytes()).ok_or_else(|| blame(heap, text, Complaint::NoTime))
 }
 
 // Whether the notice was late.
@@ -42,36 +37,26 @@ fn read_late(heap: Global, text: &str) -> Result<bool, LineFault>
     }
 }
 
-// The event that six words describe under a header.
-pub fn read_event(
-    heap: Global,
-    header: Header,
-    date: &str,
-    start: &str,
-    notice: &str,
-    price: &str,
-    baseline: &str,
-    load: &str,
-) -> Result<Event, LineFault>
-    ensures { IfOk result (λ e. EventText header date.now start.now notice.now price.now baseline.now load.now e) }
+// The event that the words of its line describe under a header.
+pub fn read_event(heap: Global, header: Header, words: EventWords) -> Result<Event, LineFault>
+    ensures { IfOk result (λ e. EventText header words.entry.date.now words.entry.start.now words.entry.notice.now words.entry.price.now words.entry.baseline.now words.entry.load.now e) }
 {
-    let day = read_day(heap, date)?;
-    if day.month().number() != header.month.number() {
-        return Err(blame(heap, date, Complaint::OutsideMonth));
+    let day = read_day(heap, words.date)?;
+    if day.month() != header.month {
+        return Err(blame(heap, words.date, Complaint::OutsideMonth));
     }
-    let start = read_start(heap, start)?;
-    let late = read_late(heap, notice)?;
-    let price = number(heap, price, Places::Two)?;
-    let baseline = Figure::read(heap, baseline)?;
-    let load = Figure::read(heap, load)?;
+    let start = read_start(heap, words.start)?;
     let figures = header.agreement.code.figures();
     let quarters = header.agreement.terms.quarters();
+    let dispatch = Dispatch {
+        late: read_late(heap, words.notice)?,
+        price: fitted(number(heap, words.price, Places::Two)?, u16::MAX),
+        baseline: Figure::read(heap, words.baseline)?.baseline(figures, quarters),
+        event_load: Figure::read(heap, words.load)?.load(figures, quarters),
+    };
     Ok(Event {
         day,
         start,
-        late,
-        price: fit_u16(price),
-        baseline: baseline.baseline(figures, quarters),
-        event_load: load.load(figures, quarters),
+        dispatch,
     })
 }

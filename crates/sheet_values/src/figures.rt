@@ -1,12 +1,12 @@
 // Reading the figures of an event, and turning a demand in kW into the figure that a programme settles by.
 
 ghost use Rattle.std.specs.Prelude.{◌≡◌, IfOk};
-ghost use Rattle.sheet_values.specs.Figures.{baseline_of, load_of, FigureText};
+ghost use Rattle.sheet_values.specs.Figures.{baseline_of, load_of, over, FigureText};
 
 use crate::measured::Figure;
 use crate::numbers::number;
 use decimals::Places;
-use programme::{Figures, Fold};
+use programme::Figures;
 use sheet_words::LineFault;
 use std::alloc::Global;
 
@@ -16,8 +16,18 @@ impl Figure {
         ensures { IfOk result (λ figure. FigureText text.now figure) }
     {
         match text.strip_suffix("kW") {
-            Some(kilowatts) => Ok(Figure::Demand(number(heap, kilowatts, Places::Three)?)),
-            None => Ok(Figure::Total(number(heap, text, Places::Zero)?)),
+            Some(kilowatts) => number(heap, kilowatts, Places::Three).map(Figure::Demand),
+            None => number(heap, text, Places::Zero).map(Figure::Total),
+        }
+    }
+
+    // The figure, into which a demand enters as many times as readings are added up.
+    fn over(self, parts: u64) -> u64
+        ensures { result ≡ over parts self }
+    {
+        match self {
+            Figure::Total(watts) => watts,
+            Figure::Demand(watts) => watts.saturating_mul(parts),
         }
     }
 
@@ -25,22 +35,13 @@ impl Figure {
     pub fn load(self, figures: Figures, n: u16) -> u64
         ensures { result ≡ load_of figures.fold n self }
     {
-        match (self, figures.fold) {
-            (Figure::Total(watts), _) => watts,
-            (Figure::Demand(watts), Fold::Sum) => watts.saturating_mul(u64::from(n)),
-            (Figure::Demand(watts), Fold::Peak) => watts,
-        }
+        self.over(figures.fold.parts(1, n))
     }
 
     // The baseline over the windows of n quarters of the programme's baseline days.
     pub fn baseline(self, figures: Figures, n: u16) -> u64
         ensures { result ≡ baseline_of figures.baseline_days figures.fold n self }
     {
-        let days = u64::from(figures.baseline_days);
-        match (self, figures.fold) {
-            (Figure::Total(watts), _) => watts,
-            (Figure::Demand(watts), Fold::Sum) => watts.saturating_mul(days * u64::from(n)),
-            (Figure::Demand(watts), Fold::Peak) => watts.saturating_mul(days),
-        }
+        self.over(figures.fold.parts(figures.baseline_days, n))
     }
 }

@@ -2,6 +2,7 @@
 
 #![tactic(auto)]
 
+mod called;
 mod drafts;
 mod events;
 mod figures;

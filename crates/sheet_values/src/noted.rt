@@ -10,7 +10,7 @@ pub struct Noted<T> {
     pub line: usize,
 }
 
-#[derive(Clone, Copy)]
+#[derive(Clone, Copy, Default)]
 pub struct Draft {
     pub code: Option<Noted<Code>>,
     pub account: Option<Noted<u8>>,

@@ -1,48 +1,51 @@
 // Numbers of a sheet, read from words and fitted into their types.
 
-ghost use Rattle.std.specs.Prelude.{◌≡◌, min, MatchResult};
+ghost use Rattle.std.specs.Prelude.{ℕ, IfOk, MatchResult};
 ghost use Rattle.decimals.specs.Numerals.{Spells, places_of};
-ghost use Rattle.sheet_words.specs.Faults.{complaint_of, IsNoNumber};
+ghost use Rattle.sheet_values.specs.Numbers.{Fits};
+ghost use Rattle.sheet_words.specs.Faults.{Blames, complaint_of, IsNoNumber};
 
 use decimals::{Misread, Places};
 use sheet_words::{Complaint, LineFault, blame};
 use std::alloc::Global;
 
-fn complaint(why: Misread, places: Places) -> Complaint
-    ensures { result ≡ complaint_of places why }
+// The fault of a word that is no number.
+fn no_number(heap: Global, text: &str, places: Places, why: Misread) -> LineFault
+    ensures { Blames text.now (complaint_of places why) result }
 {
-    match why {
+    let complaint = match why {
         Misread::Empty | Misread::NotANumber => Complaint::NotANumber,
         Misread::TooManyDigits => Complaint::TooManyDigits,
         Misread::TooManyDecimals => Complaint::TooManyDecimals(places),
-    }
+    };
+    blame(heap, text, complaint)
 }
 
 // A word as a number in units of its last place.
 pub fn number(heap: Global, text: &str, places: Places) -> Result<u64, LineFault>
     ensures { MatchResult result (λ n. Spells (places_of places) text.now n) (IsNoNumber places text.now) }
 {
-    match decimals::read(text.as_bytes(), places) {
-        Ok(n) => Ok(n),
-        Err(why) => Err(blame(heap, text, complaint(why, places))),
-    }
+    decimals::read(text.as_bytes(), places).map_err(|why| no_number(heap, text, places, why))
 }
 
-// Numbers too large for their type become its largest, which no check of a settlement lets pass.
-pub(crate) fn fit_u8(n: u64) -> u8
-    ensures { result ≡ min n 255 }
+// A number that its type cannot hold becomes the type's largest, which no check of a settlement lets pass.
+pub(crate) fn fitted<T: TryFrom<u64> + Drop>(n: u64, largest: T) -> T
+where
+    T::Error: Drop,
+    ensures { Fits T.try_from_gives n largest result }
 {
-    n.min(255) as u8
+    T::try_from(n).unwrap_or(largest)
 }
 
-pub(crate) fn fit_u16(n: u64) -> u16
-    ensures { result ≡ min n 65535 }
+// A word as a whole number of a type.
+pub(crate) fn count<T: TryFrom<u64> + Drop>(
+    heap: Global,
+    text: &str,
+    largest: T,
+) -> Result<T, LineFault>
+where
+    T::Error: Drop,
+    ensures { IfOk result (λ value. (n : ℕ) × Spells 0 text.now n × Fits T.try_from_gives n largest value) }
 {
-    n.min(65_535) as u16
-}
-
-pub(crate) fn fit_u32(n: u64) -> u32
-    ensures { result ≡ min n 4294967295 }
-{
-    n.min(4_294_967_295) as u32
+    Ok(fitted(number(heap, text, Places::Zero)?, largest))
 }

@@ -12,13 +12,13 @@ impl Header {
     {
         let agreement = self.agreement;
         let terms = agreement.terms;
+        // `Terms::lawful` tests all ranges at once, and here each has a line of its own
+        let lowest_kw = agreement.code.figures().lowest_kw;
         if agreement.account > 7 {
             self.lines.account
-        } else if terms.capacity_kw < 100 || terms.capacity_kw > 200_000 {
+        } else if !(100..=200_000).contains(&terms.capacity_kw) {
             self.lines.capacity
-        } else if terms.reduction_kw < agreement.code.figures().lowest_kw
-            || terms.reduction_kw > terms.capacity_kw
-        {
+        } else if !(lowest_kw..=terms.capacity_kw).contains(&terms.reduction_kw) {
             self.lines.reduction
         } else {
             self.lines.hours

@@ -9,8 +9,8 @@ use std::alloc::Global;
 pub fn blame(heap: Global, text: &str, complaint: Complaint) -> LineFault
     ensures { Blames text.now complaint result }
 {
-    match String::from_str(heap, text) {
-        Ok(text) => LineFault::Wrong { text, complaint },
-        Err(_) => LineFault::Memory,
-    }
+    String::from_str(heap, text).map_or(
+        LineFault::Memory,
+        |text| LineFault::Wrong { text, complaint },
+    )
 }

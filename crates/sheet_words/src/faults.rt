@@ -36,6 +36,7 @@ pub enum LineFault {
     Memory,
 }
 
+// Want of memory is a case of each error type, as everywhere in the project; on a line it is told without the line.
 #[derive(Drop)]
 pub enum SheetFault {
     // the first byte that is no text
@@ -47,6 +48,7 @@ pub enum SheetFault {
     Memory,
 }
 
+// By hand for each error type: a derive that writes them wants the allocator's error inside `Memory`.
 impl From<AllocError> for LineFault {
     fn from(_e: AllocError) -> LineFault {
         LineFault::Memory

@@ -33,9 +33,9 @@ pub fn parse(heap: Global, line: &str) -> Result<Statement<'_>, LineFault> {
     let [first, rest @ ..] = words.as_slice() else {
         return Ok(Statement::Blank);
     };
-    let Some(word) = Word::of(first) else {
-        return Err(blame(heap, first, Complaint::UnknownWord));
-    };
+    let word: Word = first
+        .parse()
+        .map_err(|complaint| blame(heap, first, complaint))?;
     match (word, rest) {
         (Word::Event, [date, start, notice, price, baseline, load]) => {
             Ok(Statement::Event(EventWords {
@@ -47,11 +47,7 @@ pub fn parse(heap: Global, line: &str) -> Result<Statement<'_>, LineFault> {
                 load,
             }))
         }
-        (Word::Event, _) => Err(LineFault::WordCount {
-            word,
-            given: rest.len(),
-        }),
-        (_, [text]) => Ok(Statement::Header(word, text)),
+        (header, [text]) if header != Word::Event => Ok(Statement::Header(header, text)),
         _ => Err(LineFault::WordCount {
             word,
             given: rest.len(),

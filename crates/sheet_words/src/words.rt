@@ -1,32 +1,37 @@
-// The words that begin a statement.
+// The words that begin a statement, as text.
 
-ghost use Rattle.std.specs.Prelude.{◌≡◌, MatchOption, ◌≢◌};
-ghost use Rattle.sheet_words.specs.Words.{spelling};
-ghost use Rattle.sheet_words.specs.declared.keys.Word.{Word as Statement};
+ghost use Rattle.std.specs.Prelude.{Some};
+ghost use Rattle.sheet_words.specs.Words.{ParsesWord, spelling};
 
+use crate::faults::Complaint;
 use crate::keys::Word;
+use std::fmt;
+use std::str::FromStr;
 
-impl Word {
-    // The word that has this spelling.
-    pub fn of(text: &str) -> Option<Word>
-        ensures { MatchOption result ((word : Statement) → text.now ≢ spelling word) (λ word. text.now ≡ spelling word) }
-    {
+impl FromStr for Word {
+    type Err = Complaint;
+
+    ghost from_str_gives = { ParsesWord };
+
+    fn from_str(text: &str) -> Result<Word, Complaint> {
         match text {
-            "programme" => Some(Word::Programme),
-            "account" => Some(Word::Account),
-            "month" => Some(Word::Month),
-            "capacity" => Some(Word::Capacity),
-            "reduction" => Some(Word::Reduction),
-            "hours" => Some(Word::Hours),
-            "event" => Some(Word::Event),
-            _ => None,
+            "programme" => Ok(Word::Programme),
+            "account" => Ok(Word::Account),
+            "month" => Ok(Word::Month),
+            "capacity" => Ok(Word::Capacity),
+            "reduction" => Ok(Word::Reduction),
+            "hours" => Ok(Word::Hours),
+            "event" => Ok(Word::Event),
+            _ => Err(Complaint::UnknownWord),
         }
     }
+}
 
-    pub fn text(self) -> &'static str
-        ensures { result.now ≡ spelling self }
-    {
-        match self {
+impl fmt::Display for Word {
+    ghost output = { λ word. Some (spelling word) };
+
+    fn fmt<W: fmt::Write>(&self, f: &mut fmt::Formatter<W>) -> fmt::Result {
+        f.write_str(match self {
             Word::Programme => "programme",
             Word::Account => "account",
             Word::Month => "month",
@@ -34,6 +39,6 @@ impl Word {
             Word::Reduction => "reduction",
             Word::Hours => "hours",
             Word::Event => "event",
-        }
+        })
     }
 }

@@ -1,19 +1,13 @@
-use Rattle.std.proofs.Common.{sym, ◌∙◌, eq-eqb, ne_eqb}
-use Rattle.settlement.proofs.Steps.{called_here, called_later, called_none}
+use Rattle.std.proofs.Common.{◌==◌, sym, ◌∙◌, rules}
+use Rattle.std.proofs.lemmas.Iterator.{YieldsList-from_slice}
+use Rattle.std.proofs.lemmas.Iterator.Search.{any_from_yields_List}
+use Rattle.settlement.proofs.Mapped.{any_mapped}
 use Rattle.settlement.proofs.checks.called_on.Goals as goal
 
-pub returns-then-number : goal.returns-then-number
-returns-then-number c =
-    let same = sym c.number.ensures ∙ c.if-number.true ∙ c.number-in-loop-event.ensures in
-    sym (sym c.loop-event.invariant
-    ∙ called_here c.args.events.now c.loop-event.event-index c.event-item.result c.loop-event-test.true c.event-item.is c.args.day.number (eq-eqb _ _ same))
-
-pub loop-event-preserved : goal.loop-event-preserved
-loop-event-preserved c =
-    sym (called_later c.args.events.now c.loop-event.event-index c.event-item.result c.loop-event-test.true c.event-item.is c.args.day.number
-    (ne_eqb _ _ (λ same. c.if-number.false (c.number.ensures ∙ same ∙ sym c.number-in-loop-event.ensures))))
-    ∙ c.loop-event.invariant
-
 pub returns : goal.returns
-returns c =
-    sym (sym c.loop-event.invariant ∙ called_none c.args.events.now c.loop-event.event-index c.args.day.number c.loop-event-test.false)
+returns g c =
+    let es = c.args.events.now in
+    let event = g.E.Called.event in
+    let day = c.args.day.number in
+    any_from_yields_List (λ e. (event e).day.number == day) _ _ _ c.any.ensures.ran (YieldsList-from_slice es cc) (λ x b q k. search rules)
+    ∙ sym (any_mapped (λ e. e.day.number == day) event es)

@@ -1,39 +1,45 @@
 // A programme by its letter.
 
-ghost use Rattle.std.specs.Prelude.{◌≡◌, true, MatchOption, ◌≢◌};
+ghost use Rattle.std.specs.Prelude.{◌≡◌, true};
 ghost use Rattle.std.specs.Option.{SomeIff};
 ghost use Rattle.programme.specs.Bounds.{lawful_terms, settleable};
-ghost use Rattle.programme.specs.Programmes.{letter_of, meaning_of};
-ghost use Rattle.programme.specs.declared.codes.Code.{Code as Named};
+ghost use Rattle.programme.specs.Programmes.{NamesProgramme, letter_of, meaning_of};
 
-use crate::codes::Code;
+use crate::codes::{Code, UnknownProgramme};
+use crate::dispatches::Dispatch;
 use crate::figures::Figures;
 use crate::programmes::{Economic, JointBidding, Programme, Reliable};
 use crate::terms::Terms;
 
-impl Code {
-    // The programme of a letter, if it has one.
-    pub fn from_letter(letter: char) -> Option<Code>
-        ensures { MatchOption result ((code : Named) → letter ≢ letter_of code) (λ code. letter ≡ letter_of code) }
-    {
+impl TryFrom<char> for Code {
+    type Error = UnknownProgramme;
+
+    ghost try_from_gives = { NamesProgramme };
+
+    fn try_from(letter: char) -> Result<Code, UnknownProgramme> {
         match letter {
-            'E' => Some(Code::Economic),
-            'J' => Some(Code::JointBidding),
-            'R' => Some(Code::Reliable),
-            _ => None,
+            'E' => Ok(Code::Economic),
+            'J' => Ok(Code::JointBidding),
+            'R' => Ok(Code::Reliable),
+            _ => Err(UnknownProgramme(letter)),
         }
     }
+}
 
-    pub fn letter(self) -> char
-        ensures { result ≡ letter_of self }
-    {
-        match self {
+impl From<Code> for char {
+    ghost from_gives = { λ code letter. letter ≡ letter_of code };
+
+    fn from(code: Code) -> char {
+        match code {
             Code::Economic => 'E',
             Code::JointBidding => 'J',
             Code::Reliable => 'R',
         }
     }
+}
 
+// The three matches below each call a function of a type that is known only in its arm.
+impl Code {
     pub fn figures(self) -> Figures
         ensures { result ≡ (meaning_of self).figures }
     {
@@ -45,28 +51,16 @@ impl Code {
     }
 
     // Credit, surcharge, and 1 for a missed event, else 0; nothing where terms, price or figures are out of range.
-    pub fn event(
-        self,
-        terms: Terms,
-        price: u16,
-        late: bool,
-        baseline: u64,
-        event_load: u64,
-    ) -> Option<(u64, u64, u64)>
-        ensures { SomeIff result (settleable (meaning_of self).figures terms price baseline event_load ≡ true) ((meaning_of self).event terms price late baseline event_load) }
+    pub fn event(self, terms: Terms, dispatch: Dispatch) -> Option<(u64, u64, u64)>
+        ensures { SomeIff result (settleable (meaning_of self).figures terms dispatch.price dispatch.baseline dispatch.event_load ≡ true) ((meaning_of self).event terms dispatch.price dispatch.late dispatch.baseline dispatch.event_load) }
     {
-        if !self
-            .figures()
-            .can_settle(terms, price, baseline, event_load)
-        {
+        if !self.figures().can_settle(terms, dispatch) {
             return None;
         }
         match self {
-            Code::Economic => Some(Economic::event(terms, price, late, baseline, event_load)),
-            Code::JointBidding => Some(JointBidding::event(
-                terms, price, late, baseline, event_load,
-            )),
-            Code::Reliable => Some(Reliable::event(terms, price, late, baseline, event_load)),
+            Code::Economic => Some(Economic::event(terms, dispatch)),
+            Code::JointBidding => Some(JointBidding::event(terms, dispatch)),
+            Code::Reliable => Some(Reliable::event(terms, dispatch)),
         }
     }
 
