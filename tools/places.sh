@@ -28,6 +28,7 @@ found '5 clauses that a type might say' grep -nE '(requires|ensures) (same|close
 found '5 functions of five parameters or more' awk '/^ *(pub(\(crate\))? )?fn /{ s = ""; on = 1 } on { s = s $0; if ($0 ~ /\)( ->.*)?( \{|;)?$/ || $0 ~ /\) ->/) { on = 0; t = s; sub(/^[^(]*(<[^(]*>)?\(/, "", t); sub(/\) *(->.*)?$/, "", t); n = gsub(/: /, ": ", t); if (s ~ /self/) n++; if (n >= 5) print FILENAME ": " FNR } }'
 found '6 a length or a place beside, lists side by side' grep -nE '^ +(pub(\(crate\))? )?(count|len|at|start|starts|lines|floor): '
 found '7 matches on a kind' grep -nE 'match (self|code|fold|agreement\.code|self\.places|word|complaint|refusal|\(self, )'
-printf '%-48s %s\n' '8 answers in proof files' "$(cat $(find crates -name '*.antt' -path '*proofs*') | grep -cE '^pub ')"
-printf '%-48s %s\n' '8 proof files' "$(find crates -name '*.antt' -path '*proofs*' | wc -l)"
-printf '%-48s %s\n' '8 lines of proof files' "$(cat $(find crates -name '*.antt' -path '*proofs*') | grep -c .)"
+proofs=$(find crates -name '*.antt' -path 'crates/*/proofs/*' -not -path '*/out/*')
+printf '%-48s %s\n' '8 answers and lemmas in proof files' "$(cat $proofs | grep -cE '^pub ')"
+printf '%-48s %s\n' '8 proof files' "$(printf '%s\n' "$proofs" | wc -l)"
+printf '%-48s %s\n' '8 lines of proof files' "$(cat $proofs | grep -c .)"
