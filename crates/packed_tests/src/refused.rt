@@ -4,6 +4,7 @@ use crate::samples::SAMPLE;
 use packed::PackedFile;
 
 // The number and the byte by which bytes are refused, or nothing where they are opened.
+// A refusal stands by its number, which the rules fix.
 fn refused(bytes: &[u8]) -> Option<(u8, usize)> {
     let answer = PackedFile::open(bytes).err()?.answer();
     Some((answer.number, answer.offset))

@@ -8,13 +8,15 @@ mod tests {
     use packed::PackedFile;
     use packed_writer::{Writer, write_day, write_empty};
     use refusal::Refusal;
+    use std::array;
     use std::test::Fail;
 
-    // The number of a refusal, if there is one, and where the refused record would begin.
+    // The refusal, if there is one, by its number, which the rules fix.
     fn number(told: Result<(), Refusal>) -> Option<u8> {
         told.err().map(|refusal| refusal.number())
     }
 
+    // Where the refused record would begin: the offset, which the rules fix beside the number.
     fn place(told: Result<(), Refusal>) -> Option<usize> {
         told.err().map(|refusal| refusal.answer().offset)
     }
@@ -72,10 +74,7 @@ mod tests {
     // All 96 quarters and a single one, written and read again.
     #[test]
     fn what_is_written_is_read(rt: HostRuntime) -> Result<(), Fail> {
-        let mut quarters = [None; 96];
-        for quarter in 0..96u8 {
-            quarters[usize::from(quarter)] = Some(1_000_000 + u32::from(quarter));
-        }
+        let quarters = array::from_fn(|quarter| Some(1_000_000 + quarter as u32));
         let mut buffer = [0; 500];
         let mut w = Writer::new(&mut buffer);
         let full = w.append_day(2, 4000, &quarters);
@@ -87,15 +86,9 @@ mod tests {
         assert_eq!(rt; number(one), None);
         assert_eq!(rt; len, 418);
         let file = PackedFile::open(&buffer[..len]).ok().ok_or("refused")?;
-        for quarter in 0..96u8 {
-            assert_eq!(rt;
-                file.reading(2, 4000, quarter),
-                quarters[usize::from(quarter)]
-            );
-            assert_eq!(rt;
-                file.reading(2, 4001, quarter),
-                single[usize::from(quarter)]
-            );
+        for ((quarter, of_full), of_single) in (0..96u8).zip(quarters).zip(single) {
+            assert_eq!(rt; file.reading(2, 4000, quarter), of_full);
+            assert_eq!(rt; file.reading(2, 4001, quarter), of_single);
         }
         assert_eq!(rt; file.reading(2, 4000, 96), None);
         assert_eq!(rt; file.reading(2, 3999, 0), None);
