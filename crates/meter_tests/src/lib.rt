@@ -18,7 +18,7 @@ mod tests {
         days: 2,
     };
 
-    // The number of the refusal, if there is one.
+    // The refusal, if there is one, by its number, which the rules fix.
     fn refused<T: Drop>(answer: Result<T, Refusal>) -> Option<u8> {
         answer.err().map(|refusal| refusal.number())
     }
@@ -97,9 +97,9 @@ mod tests {
         assert_eq!(rt; refused(Group::new(2, 0b0000_0111)), Some(38));
         assert_eq!(rt; refused(Group::new(2, 0b0000_0001)), Some(38));
         assert_eq!(rt; refused(Group::new(8, 0b0000_0011)), Some(38));
-        let Ok(group) = Group::new(2, 0b0000_0011) else {
-            return Err(Fail::new("two members are a group"));
-        };
+        let group = Group::new(2, 0b0000_0011)
+            .ok()
+            .ok_or("two members are a group")?;
         let meter = GroupMeter::new(group, &table);
         assert_eq!(rt; meter.reading(2, 100, 0), Some(3000));
         assert_eq!(rt; meter.reading(2, 100, 1), Some(200_000_000));
@@ -119,9 +119,7 @@ mod tests {
         assert_eq!(rt; refused(table.file_day(0, 100, &day)), None);
         assert_eq!(rt; refused(table.file_day(0, 101, &day)), None);
         assert!(rt; Window::new(89, 2).is_none());
-        let Some(window) = Window::new(40, 2) else {
-            return Err(Fail::new("a window that ends by midnight"));
-        };
+        let window = Window::new(40, 2).ok_or("a window that ends by midnight")?;
         assert_eq!(rt;
             window_figure::<Economic, Table>(&table, 0, 100, window).ok(),
             Some(10_000)
@@ -140,10 +138,10 @@ mod tests {
         day[44] = MARK;
         day[46] = MARK;
         assert_eq!(rt; refused(table.file_day(0, 100, &day)), None);
-        let Err(refusal) = baseline::<Economic, Table>(&table, 0, &days, window) else {
-            return Err(Fail::new("two readings are absent"));
-        };
-        let answer = refusal.answer();
+        let answer = baseline::<Economic, Table>(&table, 0, &days, window)
+            .err()
+            .ok_or("two readings are absent")?
+            .answer();
         assert_eq!(rt; (answer.number, answer.day, answer.quarter), (25, 100, 44));
         Ok(())
     }

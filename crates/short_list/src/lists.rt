@@ -3,7 +3,8 @@
 ghost use Rattle.std.specs.Prelude.{◌≤◌, length};
 
 // At most N values, in the order in which they came.
-// An array and a count, since it is `Copy` and holds any `Copy` type: the kit's `ArrayVec` is not, and asks for a default.
+// An array and a count, in place, since settling takes no memory. It is `Copy` and holds any `Copy` type, and must stay so
+// for its callers: the kit's `ArrayVec` is not `Copy`, and asks for a default.
 pub struct Short<T, const N: usize> {
     pub(crate) items: [T; N],
     pub(crate) count: usize,
@@ -11,5 +12,5 @@ pub struct Short<T, const N: usize> {
     ghost held: { count ≤ length items },
 }
 
-// By hand, with `Clone`: a derive is refused beside ghost fields, and would not promise an equal list, never an error.
+// By hand, with `Clone`: the derive of a generic type is refused beside ghost fields, and would not promise an equal list.
 impl<T: Copy, const N: usize> Copy for Short<T, N> {}

@@ -27,7 +27,7 @@ impl<T: Copy, const N: usize> Short<T, N> {
         }
     }
 
-    // Adds a value behind the others, if there is room, and says whether there was.
+    // Adds a value behind the others, if there is room, and says whether there was, as a set's `insert` does: there is nothing else to say.
     pub fn push(&mut self, item: T) -> bool
         ensures room { result ≡ nat_lt (length (listed self.old)) N }
         ensures after { listed self.new ≡ pushed result (listed self.old) item }
