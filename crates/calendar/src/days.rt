@@ -21,6 +21,7 @@ impl Day {
     pub const LAST: u16 = 10957;
 
     // None, as of `NonZero::new`: the error type of a `TryFrom`, or of a `FromStr` for `read`, would say no more.
+    // By `if`: a closure for `then` would need the range of the day that it makes as a clause of its own.
     pub fn new(number: u16) -> Option<Day>
         ensures { option_map (λ d. d.number) result ≡ (if nat_le number 10957 then Some number else None) }
     {
@@ -51,6 +52,7 @@ impl Day {
         ensures inside { self.number < first_day result.number + month_length result.number }
     {
         let begun = first_days().partition_point(|first| *first <= self.number);
+        // `as` where a proof shows that nothing is lost: a `TryFrom` would need a refusal that cannot come
         Month {
             number: begun as u16 - 1,
         }
@@ -65,7 +67,7 @@ impl Day {
         passed + 1
     }
 
-    // The day as 2026-02-05.
+    // The day as 2026-02-05, in bytes in place, so that no text asks for memory and `Display` can pad it.
     pub fn text(self) -> [u8; 10]
         ensures value { result ≡ date_text self.number }
         ensures ascii { IsAscii result }

@@ -58,6 +58,7 @@ fn is_leap(year: u16) -> bool
 impl Month {
     pub const LAST: u16 = 359;
 
+    // `new`, `number`, `read` and `text` are as a day's, for the reasons that stand there; so is what `as` narrows.
     pub fn new(number: u16) -> Option<Month>
         ensures { option_map (λ m. m.number) result ≡ (if nat_le number 359 then Some number else None) }
     {

@@ -16,6 +16,7 @@ pub struct Quarter {
 impl Quarter {
     pub const LAST: u8 = 95;
 
+    // `new`, `number`, `read` and `text` are as a day's, for the reasons that stand there.
     pub fn new(number: u8) -> Option<Quarter>
         ensures { option_map (λ q. q.number) result ≡ (if nat_le number 95 then Some number else None) }
     {

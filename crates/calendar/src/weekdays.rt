@@ -15,6 +15,7 @@ pub enum Weekday {
 
 impl Weekday {
     // The day of the week on which the day falls that has this number, be it in the calendar or not.
+    // Computed, and no conversion of a value; the language has none from a number to a case.
     pub fn of(day: u16) -> Weekday
         ensures { weekday_number result ≡ weekday_of day }
     {

@@ -1,6 +1,7 @@
 use calendar::{Day, Moment, Month, Quarter, Weekday};
 use std::test::Fail;
 
+// The tables compare numbers, since `Day::new` gives an `Option` too, and a wrong row would pass as `None` on both sides.
 fn day(text: &str) -> Option<u16> {
     Day::read(text.as_bytes()).map(|day| day.number())
 }
@@ -63,7 +64,7 @@ fn other_texts_are_no_dates(rt: HostRuntime) {
 fn leap_days(rt: HostRuntime) -> Result<(), Fail> {
     for year in 2015..2045u16 {
         let number = 12 * (year - 2015) + 1;
-        let february = Month::new(number).ok_or_else(|| Fail::new("no such month"))?;
+        let february = Month::new(number).ok_or("no such month")?;
         let last = if year % 4 == 0 { 29 } else { 28 };
         assert_eq!(rt; february.length(), last, "{}", year);
 
@@ -77,9 +78,9 @@ fn leap_days(rt: HostRuntime) -> Result<(), Fail> {
 #[test]
 fn every_day_is_read_back(rt: HostRuntime) -> Result<(), Fail> {
     for number in 0..10958u16 {
-        let day = Day::new(number).ok_or_else(|| Fail::new("no such day"))?;
-        let read = Day::read(&day.text()).map(|read| read.number());
-        assert_eq!(rt; read, Some(number));
+        let day = Day::new(number).ok_or("no such day")?;
+        assert_eq!(rt; day.number(), number);
+        assert_eq!(rt; Day::read(&day.text()), Some(day));
     }
     assert_eq!(rt; Day::new(10958), None);
     Ok(())
@@ -90,10 +91,9 @@ fn every_day_is_read_back(rt: HostRuntime) -> Result<(), Fail> {
 fn every_month_is_read_back(rt: HostRuntime) -> Result<(), Fail> {
     let mut next = 0u16;
     for number in 0..360u16 {
-        let month = Month::new(number).ok_or_else(|| Fail::new("no such month"))?;
-        let read = Month::read(&month.text()).map(|read| read.number());
-        assert_eq!(rt; read, Some(number));
-
+        let month = Month::new(number).ok_or("no such month")?;
+        assert_eq!(rt; month.number(), number);
+        assert_eq!(rt; Month::read(&month.text()), Some(month));
         assert_eq!(rt; month.first_day().number(), next, "{}", number);
         assert_eq!(rt; month.first_day().month().number(), number);
         assert_eq!(rt; month.first_day().day_of_month(), 1);
@@ -120,9 +120,9 @@ fn months_are_read(rt: HostRuntime) {
 #[test]
 fn every_quarter_is_read_back(rt: HostRuntime) -> Result<(), Fail> {
     for number in 0..96u8 {
-        let quarter = Quarter::new(number).ok_or_else(|| Fail::new("no such quarter"))?;
-        let read = Quarter::read(&quarter.text()).map(|read| read.number());
-        assert_eq!(rt; read, Some(number));
+        let quarter = Quarter::new(number).ok_or("no such quarter")?;
+        assert_eq!(rt; quarter.number(), number);
+        assert_eq!(rt; Quarter::read(&quarter.text()), Some(quarter));
     }
     assert_eq!(rt; Quarter::new(96), None);
     Ok(())
@@ -186,8 +186,8 @@ fn moments(rt: HostRuntime) {
 
 #[test]
 fn days_are_shown(rt: HostRuntime) -> Result<(), Fail> {
-    let day = Day::new(4053).ok_or_else(|| Fail::new("no such day"))?;
-    let quarter = Quarter::new(64).ok_or_else(|| Fail::new("no such quarter"))?;
+    let day = Day::new(4053).ok_or("no such day")?;
+    let quarter = Quarter::new(64).ok_or("no such quarter")?;
     let text = format!(in rt.alloc(); "{day} {quarter}")?;
     assert_eq!(rt; text.as_str(), "2026-02-05 16:00");
     let wide = format!(in rt.alloc(); "{day:>12}")?;

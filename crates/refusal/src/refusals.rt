@@ -65,7 +65,7 @@ pub enum Refusal {
     GroupMisfit,
 }
 
-// A refusal as numbers: 0 where a place is unused.
+// A refusal as the numbers that the rules and the definitions speak of: 0 where a place is unused.
 #[derive(Clone, Copy, PartialEq, Eq, Default, Debug)]
 pub struct Answer {
     pub number: u8,

@@ -1,4 +1,4 @@
-use Rattle.std.proofs.Common.{◌≤◌, mul-le-mul, arith, rules}
+use Rattle.std.proofs.Common.{rules}
 use Rattle.std.proofs.lemmas.Result.{MatchResult-from_err}
 use Rattle.decimals.specs.Numerals.{places_of, Refused}
 use Rattle.decimals.specs.declared.kinds.Misread.TheVariants.{NotANumber, TooManyDigits, TooManyDecimals}
@@ -19,15 +19,3 @@ pub returns-then-part-count-clause-only : goal.returns-then-part-count-clause-on
 returns-then-part-count-clause-only c =
     let means : Refused (places_of c.args.places) c.args.text.now TooManyDecimals = search rules in
     none_spelt (places_of c.args.places) c.args.text.now TooManyDecimals means
-
-pub overflow_mul-result : goal.overflow_mul-result
-overflow_mul-result c =
-    let v : c.value.result ≤ 1000000000000000 = omega arith in
-    let most = mul-le-mul v c.ten_to.ensures.small in search rules
-
-pub overflow_add-result : goal.overflow_add-result
-overflow_add-result c =
-    let v : c.value.result ≤ 1000000000000000 = omega arith in
-    let w : c.value-2.result ≤ 1000000000000000 = omega arith in
-    let most = mul-le-mul v c.ten_to.ensures.small in
-    let more = mul-le-mul w c.ten_to-2.ensures.small in search rules
