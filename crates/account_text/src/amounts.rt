@@ -8,7 +8,8 @@ use crate::nets::Net;
 use decimals::{Fixed, Places};
 use settlement::Totals;
 
-// a / b to the nearest whole number, a half upward, and 0 where b is 0. Only what is shown is rounded.
+// a / b to the nearest whole number, a half upward, and 0 where b is 0. Only what is shown is rounded,
+// so that any two numbers may come, where a programme's amounts have theirs in range.
 fn rounded(a: u64, b: u64) -> u64
     ensures { result ≡ rounded a b }
 {

@@ -16,7 +16,7 @@ use sheet_words::SheetFault;
 use std::alloc::{AllocError, Global};
 use std::fmt;
 
-// A programme by its name, with its letter in brackets.
+// A programme by its name, with its letter in brackets: wording, which stands here for all programmes.
 #[derive(Clone, Copy)]
 struct Title(Code);
 
@@ -58,15 +58,15 @@ fn heading(heap: Global, header: Header) -> Result<String, AllocError> {
 }
 
 // The rate of economic and joint bidding in per cent, or a dash where the saving is too small to be paid at any rate;
-// whether reliable bidding's reduction was met.
+// whether reliable bidding's reduction was met. What the column says is wording, and stands here for all programmes.
 fn outcome(
     heap: Global,
     agreement: Agreement,
     dispatch: Dispatch,
-    missed: u64,
+    missed: bool,
 ) -> Result<String, AllocError> {
     match agreement.code {
-        Code::Reliable => String::from_str(heap, if missed == 0 { "met" } else { "missed" }),
+        Code::Reliable => String::from_str(heap, if missed { "missed" } else { "met" }),
         Code::Economic | Code::JointBidding => {
             let n = agreement.terms.quarters();
             let saving = dispatch.saving();
@@ -102,7 +102,7 @@ fn event_line(
         places: Places::Two,
     };
     let price = price.to_string(heap)?;
-    let outcome = outcome(heap, agreement, dispatch, missed)?;
+    let outcome = outcome(heap, agreement, dispatch, missed != 0)?;
     let credit = Grouped(credit).to_string(heap)?;
     let surcharge = Grouped(surcharge).to_string(heap)?;
     format!(in heap;

@@ -9,7 +9,7 @@ pub enum Fold {
 
 #[derive(Clone, Copy)]
 pub struct Figures {
-    // the letter that stands for the programme, as a byte
+    // the letter that stands for the programme, as the byte that a statement writes
     pub code: u8,
     // how many business days make the baseline
     pub baseline_days: u8,

@@ -18,13 +18,18 @@ fn rounded(a: u64, b: u64) -> u64
     (2 * a + b) / (2 * b)
 }
 
+// What was saved over five days: the baseline less five times the event load.
+pub fn saving(baseline: u64, event_load: u64) -> u64
+    ensures { result ≡ saved baseline event_load }
+{
+    baseline.saturating_sub(event_load.saturating_mul(5))
+}
+
 impl Dispatch {
-    // What was saved over five days: the baseline less five times the event load.
     pub fn saving(self) -> u64
         ensures { result ≡ saved self.baseline self.event_load }
     {
-        self.baseline
-            .saturating_sub(self.event_load.saturating_mul(5))
+        saving(self.baseline, self.event_load)
     }
 }
 

@@ -16,7 +16,7 @@ mod terms;
 pub use codes::{Code, UnknownProgramme};
 pub use dispatches::Dispatch;
 pub use figures::{Figures, Fold};
-pub use formulas::{below_lowest, rate};
+pub use formulas::{below_lowest, rate, saving};
 pub use measures::{Measure, Peak, Sum};
 pub use programmes::{Economic, JointBidding, Programme, Reliable};
 pub use ranges::lawful_price;

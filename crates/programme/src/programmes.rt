@@ -14,6 +14,7 @@ use crate::measures::{Measure, Peak, Sum};
 use crate::payables::Payable;
 use crate::terms::Terms;
 
+// Its fixed figures are associated constants, and its event function answers plain numbers: rules of the project.
 pub trait Programme {
     const CODE: u8;
 
@@ -124,7 +125,8 @@ impl Programme for Economic {
     }
 }
 
-// The constants that it shares with economic bidding stand again: a constant's value cannot name one of another impl.
+// What it shares with economic bidding stands again: a constant's value can name none of another impl, nor of a marker's
+// in a generic one, and a const parameter would not promise that the lowest reduction is at least 1 kW.
 pub struct JointBidding;
 
 impl Programme for JointBidding {

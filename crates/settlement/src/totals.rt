@@ -9,7 +9,8 @@ use crate::called::Called;
 use crate::events::{Agreement, Refused, Totals};
 use programme::{Code, Dispatch, Economic, JointBidding, Programme, Reliable, Terms};
 
-// The amounts of a month's events, which are few and can all be settled.
+// The amounts of a month's events, which are few and can all be settled. Lawful terms are a premise here, as of the month function:
+// a type of them would be made and taken apart in this place alone.
 fn add_up<P: Programme, E: Called>(terms: Terms, events: &[E]) -> Totals
     requires few { length events.now ≤ 18 }
     requires lawful { lawful_terms terms ≡ true }
@@ -23,6 +24,7 @@ fn add_up<P: Programme, E: Called>(terms: Terms, events: &[E]) -> Totals
         let (credit, surcharge, miss) = P::event(terms, called.event().dispatch);
         credits += credit;
         surcharges += surcharge;
+        // 0 or 1; what `as` narrows here is proved to fit
         missed += miss as u8;
     }
     let count = events.len() as u8;

@@ -1,12 +1,10 @@
 // Amounts of worked examples.
 
+use crate::events::{ECONOMIC, RELIABLE};
 use settlement::Totals;
 use sheet::Sheet;
 use std::alloc::Global;
 use std::test::Fail;
-
-const ECONOMIC: &str =
-    "programme E\naccount 1\nmonth 2026-07\ncapacity 500\nreduction 300\nhours 4\n";
 
 fn settled(heap: Global, text: &[u8]) -> Result<Totals, Fail> {
     Sheet::read(heap, text)
@@ -86,19 +84,19 @@ fn amounts(heap: Global, text: &[u8]) -> Result<(u64, u64, u64), Fail> {
     settled(heap, text).map(|totals| (totals.basic, totals.credits, totals.surcharges))
 }
 
-const RELIABLE: &str =
-    "programme R\naccount 3\nmonth 2026-07\ncapacity 800\nreduction 300\nhours 4\nevent 2026-07-06 13:00 early 6.00 700kW 300kW\nevent 2026-07-07 13:00 early 6.00 700kW 300kW\nevent 2026-07-08 13:00 early 6.00 700kW 300kW\nevent 2026-07-09 13:00 early 6.00 700kW 300kW\n";
+const FOUR_EVENTS: &str =
+    "event 2026-07-06 13:00 early 6.00 700kW 300kW\nevent 2026-07-07 13:00 early 6.00 700kW 300kW\nevent 2026-07-08 13:00 early 6.00 700kW 300kW\nevent 2026-07-09 13:00 early 6.00 700kW 300kW\n";
 
 // Seven events of 400 kW; and four of 400, two of 300 and one of 40.
 #[test]
 fn reliable_months_pay(rt: HostRuntime) -> Result<(), Fail> {
     let heap = rt.alloc();
     let all = format!(in heap;
-        "{RELIABLE}event 2026-07-10 13:00 early 6.00 700kW 300kW\nevent 2026-07-13 13:00 early 6.00 700kW 300kW\nevent 2026-07-14 13:00 early 6.00 700kW 300kW\n"
+        "{RELIABLE}{FOUR_EVENTS}event 2026-07-10 13:00 early 6.00 700kW 300kW\nevent 2026-07-13 13:00 early 6.00 700kW 300kW\nevent 2026-07-14 13:00 early 6.00 700kW 300kW\n"
     )?;
     assert_eq!(rt; amounts(heap, all.as_bytes())?, (21_600, 67_200, 0));
     let some = format!(in heap;
-        "{RELIABLE}event 2026-07-10 13:00 early 6.00 700kW 400kW\nevent 2026-07-13 13:00 early 6.00 700kW 400kW\nevent 2026-07-14 13:00 early 6.00 700kW 660kW\n"
+        "{RELIABLE}{FOUR_EVENTS}event 2026-07-10 13:00 early 6.00 700kW 400kW\nevent 2026-07-13 13:00 early 6.00 700kW 400kW\nevent 2026-07-14 13:00 early 6.00 700kW 660kW\n"
     )?;
     assert_eq!(rt; amounts(heap, some.as_bytes())?, (15_429, 52_800, 3120));
     Ok(())
@@ -115,9 +113,8 @@ fn notations_agree(rt: HostRuntime) -> Result<(), Fail> {
     let sums = format!(in heap; "{ECONOMIC}event 2026-07-06 13:00 early 5.55 32010000 3208000\n")?;
     assert_eq!(rt; amounts(heap, means.as_bytes())?, (0, 4432, 0));
     assert_eq!(rt; amounts(heap, sums.as_bytes())?, (0, 4432, 0));
-    let header = "programme R\naccount 3\nmonth 2026-07\ncapacity 800\nreduction 300\nhours 4\n";
-    let means = format!(in heap; "{header}event 2026-07-06 13:00 early 5.55 700.125kW 300kW\n")?;
-    let peaks = format!(in heap; "{header}event 2026-07-06 13:00 early 5.55 3500625 300000\n")?;
+    let means = format!(in heap; "{RELIABLE}event 2026-07-06 13:00 early 5.55 700.125kW 300kW\n")?;
+    let peaks = format!(in heap; "{RELIABLE}event 2026-07-06 13:00 early 5.55 3500625 300000\n")?;
     assert_eq!(rt; amounts(heap, means.as_bytes())?, (21_600, 8883, 0));
     assert_eq!(rt; amounts(heap, peaks.as_bytes())?, (21_600, 8883, 0));
     Ok(())

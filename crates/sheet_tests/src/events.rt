@@ -1,15 +1,15 @@
 // Events that are refused, and where.
 
-use crate::headers::said;
-use std::alloc::{AllocError, Global};
+use crate::headers::says;
 use std::test::Fail;
 
-const ECONOMIC: &str =
+pub const ECONOMIC: &str =
     "programme E\naccount 1\nmonth 2026-07\ncapacity 500\nreduction 300\nhours 4\n";
 
-const RELIABLE: &str =
+pub const RELIABLE: &str =
     "programme R\naccount 3\nmonth 2026-07\ncapacity 800\nreduction 300\nhours 4\n";
 
+// The same header in a month without events and in the first with some: a case holds a constant text, so each is written out.
 const RELIABLE_APRIL: &str =
     "programme R\naccount 3\nmonth 2026-04\ncapacity 800\nreduction 300\nhours 4\n";
 
@@ -180,16 +180,11 @@ const CASES: [Case; 30] = [
     },
 ];
 
-fn judged(heap: Global, case: &Case) -> Result<String, AllocError> {
-    let text = format!(in heap; "{}{}\n", case.header, case.events)?;
-    said(heap, text.as_bytes())
-}
-
 #[test]
 fn events_are_judged(rt: HostRuntime) -> Result<(), Fail> {
     for case in &CASES {
-        let answer = judged(rt.alloc(), case)?;
-        assert_eq!(rt; answer.as_str(), case.says);
+        let text = format!(in rt.alloc(); "{}{}\n", case.header, case.events)?;
+        says(rt.alloc(), text.as_bytes(), case.says)?;
     }
     Ok(())
 }
@@ -201,13 +196,13 @@ fn the_cap_is_kept(rt: HostRuntime) -> Result<(), Fail> {
     let seven =
         "event 2026-07-06 13:00 early 6.00 0 0\nevent 2026-07-07 13:00 early 6.00 0 0\nevent 2026-07-08 13:00 early 6.00 0 0\nevent 2026-07-09 13:00 early 6.00 0 0\nevent 2026-07-10 13:00 early 6.00 0 0\nevent 2026-07-13 13:00 early 6.00 0 0\nevent 2026-07-14 13:00 early 6.00 0 0\n";
     let reached = format!(in heap; "{RELIABLE}{seven}")?;
-    assert_eq!(rt; said(heap, reached.as_bytes())?.as_str(), "settled");
+    says(rt.alloc(), reached.as_bytes(), "settled")?;
     let passed = format!(in heap; "{RELIABLE}{seven}event 2026-07-15 13:00 early 6.00 0 0\n")?;
-    assert_eq!(rt;
-        said(heap, passed.as_bytes())?.as_str(),
-        "line 14: refusal 19: the month's hours pass the programme's cap"
-    );
-    Ok(())
+    says(
+        rt.alloc(),
+        passed.as_bytes(),
+        "line 14: refusal 19: the month's hours pass the programme's cap",
+    )
 }
 
 // Nine events of four hours reach economic bidding's cap of 36 hours, and a tenth passes it.
@@ -219,11 +214,11 @@ fn the_economic_cap_is_kept(rt: HostRuntime) -> Result<(), Fail> {
         let event = format!(in heap; "event 2026-07-{day} 13:00 late 6.00 0 0\n")?;
         text.push_str(event.as_str())?;
     }
-    assert_eq!(rt; said(heap, text.as_bytes())?.as_str(), "settled");
+    says(rt.alloc(), text.as_bytes(), "settled")?;
     text.push_str("event 2026-07-17 13:00 early 6.00 0 0\n")?;
-    assert_eq!(rt;
-        said(heap, text.as_bytes())?.as_str(),
-        "line 16: refusal 19: the month's hours pass the programme's cap"
-    );
-    Ok(())
+    says(
+        rt.alloc(),
+        text.as_bytes(),
+        "line 16: refusal 19: the month's hours pass the programme's cap",
+    )
 }

@@ -5,16 +5,33 @@ use std::alloc::{AllocError, Global};
 use std::test::Fail;
 
 // What is said of a sheet: its fault, or that it is settled.
-pub fn said(heap: Global, text: &[u8]) -> Result<String, AllocError> {
+fn said(heap: Global, text: &[u8]) -> Result<String, AllocError> {
     account(heap, text).map_or_else(
         |fault| format!(in heap; "{fault}"),
         |_| String::from_str(heap, "settled"),
     )
 }
 
+// Whether this is said of a sheet, and nothing else.
+pub fn says(heap: Global, text: &[u8], expected: &str) -> Result<(), Fail> {
+    let answer = said(heap, text)?;
+    if answer.as_str() != expected {
+        return Err(Fail::new(format_args!("{answer:?} and not {expected:?}")));
+    }
+    Ok(())
+}
+
 struct Case {
     text: &'static str,
     says: &'static str,
+}
+
+// Whether each case's sheet is judged as the case says.
+fn judges(heap: Global, cases: &[Case]) -> Result<(), Fail> {
+    for case in cases {
+        says(heap, case.text.as_bytes(), case.says)?;
+    }
+    Ok(())
 }
 
 const CASES: [Case; 24] = [
@@ -119,11 +136,7 @@ const CASES: [Case; 24] = [
 
 #[test]
 fn headers_are_judged(rt: HostRuntime) -> Result<(), Fail> {
-    for case in &CASES {
-        let answer = said(rt.alloc(), case.text.as_bytes())?;
-        assert_eq!(rt; answer.as_str(), case.says);
-    }
-    Ok(())
+    judges(rt.alloc(), &CASES)
 }
 
 // A complete header with one value that is refused once the sheet is settled, at the line of that value.
@@ -168,28 +181,25 @@ const REFUSED: [Case; 9] = [
 
 #[test]
 fn agreements_are_checked(rt: HostRuntime) -> Result<(), Fail> {
-    for case in &REFUSED {
-        let answer = said(rt.alloc(), case.text.as_bytes())?;
-        assert_eq!(rt; answer.as_str(), case.says);
-    }
-    Ok(())
+    judges(rt.alloc(), &REFUSED)
 }
 
 // Bytes that are no text.
 #[test]
 fn random_bytes_are_refused(rt: HostRuntime) -> Result<(), Fail> {
-    let heap = rt.alloc();
-    assert_eq!(rt;
-        said(heap, b"\xff\x00\x9c\x3a\xe2\x28\xa1")?.as_str(),
-        "byte 0 is not UTF-8 text"
-    );
-    assert_eq!(rt;
-        said(heap, b"programme E\nacco\xe9nt 1\n")?.as_str(),
-        "byte 16 is not UTF-8 text"
-    );
-    assert_eq!(rt;
-        said(heap, b"\x01\x7f\x1b[")?.as_str(),
-        "line 1: \"\\u{1}\\u{7f}\\u{1b}[\" is none of the words programme, account, month, capacity, reduction, hours, event"
-    );
-    Ok(())
+    says(
+        rt.alloc(),
+        b"\xff\x00\x9c\x3a\xe2\x28\xa1",
+        "byte 0 is not UTF-8 text",
+    )?;
+    says(
+        rt.alloc(),
+        b"programme E\nacco\xe9nt 1\n",
+        "byte 16 is not UTF-8 text",
+    )?;
+    says(
+        rt.alloc(),
+        b"\x01\x7f\x1b[",
+        "line 1: \"\\u{1}\\u{7f}\\u{1b}[\" is none of the words programme, account, month, capacity, reduction, hours, event",
+    )
 }

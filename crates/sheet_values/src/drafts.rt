@@ -13,6 +13,8 @@ use settlement::Agreement;
 use sheet_words::{Complaint, LineFault, Word, blame};
 use std::alloc::Global;
 
+// The readers of single words are one line each, with the text of their own type in the clause: a generic one would be told
+// the type's reader, its complaint and its text at every call.
 fn read_code(heap: Global, text: &str) -> Result<Code, LineFault>
     ensures { IfOk result (λ code. text.now ≡ letter_of code ∷ []) }
 {
@@ -58,7 +60,7 @@ impl Draft {
     pub fn is_empty(&self) -> bool
         ensures { result ≡ is_blank self.now }
     {
-        // no `==` with the empty draft, since `Code` has no equality
+        // six questions, as a draft has six places; `==` with the empty draft would have six types compared for it
         self.code.is_none()
             && self.account.is_none()
             && self.month.is_none()

@@ -14,6 +14,7 @@ use settlement::Event;
 use sheet_words::{Complaint, EventWords, LineFault, blame};
 use std::alloc::Global;
 
+// As the readers of the header's words, one line each.
 fn read_day(heap: Global, text: &str) -> Result<Day, LineFault>
     ensures { IfOk result (λ day. text.now ≡ date_text day.number) }
 {
@@ -26,7 +27,7 @@ fn read_start(heap: Global, text: &str) -> Result<Quarter, LineFault>
     Quarter::read(text.as_bytes()).ok_or_else(|| blame(heap, text, Complaint::NoTime))
 }
 
-// Whether the notice was late.
+// Whether the notice was late: a yes or no, as the event function takes it.
 fn read_late(heap: Global, text: &str) -> Result<bool, LineFault>
     ensures { IfOk result (λ late. text.now ≡ notice_text late) }
 {

@@ -5,25 +5,23 @@ use crate::keys::Word;
 use decimals::Places;
 use std::fmt;
 
-// What is said of a word after it is quoted.
-impl fmt::Display for Complaint {
-    fn fmt<W: fmt::Write>(&self, f: &mut fmt::Formatter<W>) -> fmt::Result {
-        f.write_str(match self {
-            Complaint::UnknownWord =>
-                "is none of the words programme, account, month, capacity, reduction, hours, event",
-            Complaint::UnknownProgramme =>
-                "is no programme (E for economic, J for joint, R for reliable bidding)",
-            Complaint::NoMonth => "is no month (like 2026-02, from 2015-01 to 2044-12)",
-            Complaint::NoDate => "is no date (like 2026-02-05, from 2015-01-01 to 2044-12-31)",
-            Complaint::NoTime => "is no quarter of an hour (like 13:15)",
-            Complaint::NoNotice => "is neither early nor late",
-            Complaint::NotANumber => "is no number",
-            Complaint::TooManyDigits => "has too many digits",
-            Complaint::TooManyDecimals(Places::Zero) => "must be a whole number",
-            Complaint::TooManyDecimals(Places::Two) => "has more than two decimals",
-            Complaint::TooManyDecimals(Places::Three) => "has more than three decimals",
-            Complaint::OutsideMonth => "lies outside the sheet's month",
-        })
+// What is said of a word after it is quoted. No `Display` of the complaint, which would be public and promise nothing.
+fn remark(complaint: Complaint) -> &'static str {
+    match complaint {
+        Complaint::UnknownWord =>
+            "is none of the words programme, account, month, capacity, reduction, hours, event",
+        Complaint::UnknownProgramme =>
+            "is no programme (E for economic, J for joint, R for reliable bidding)",
+        Complaint::NoMonth => "is no month (like 2026-02, from 2015-01 to 2044-12)",
+        Complaint::NoDate => "is no date (like 2026-02-05, from 2015-01-01 to 2044-12-31)",
+        Complaint::NoTime => "is no quarter of an hour (like 13:15)",
+        Complaint::NoNotice => "is neither early nor late",
+        Complaint::NotANumber => "is no number",
+        Complaint::TooManyDigits => "has too many digits",
+        Complaint::TooManyDecimals(Places::Zero) => "must be a whole number",
+        Complaint::TooManyDecimals(Places::Two) => "has more than two decimals",
+        Complaint::TooManyDecimals(Places::Three) => "has more than three decimals",
+        Complaint::OutsideMonth => "lies outside the sheet's month",
     }
 }
 
@@ -49,10 +47,11 @@ impl fmt::Display for LineFault {
     fn fmt<W: fmt::Write>(&self, f: &mut fmt::Formatter<W>) -> fmt::Result {
         match self {
             LineFault::Wrong { text, complaint } => {
+                let remark = remark(*complaint);
                 if is_quoted(text.as_str(), *complaint) {
-                    write!(f, "{text:?} {complaint}")
+                    write!(f, "{text:?} {remark}")
                 } else {
-                    write!(f, "{text} {complaint}")
+                    write!(f, "{text} {remark}")
                 }
             }
             LineFault::WordCount { word, given } => {

@@ -1,6 +1,6 @@
 // The words that begin a statement, as text.
 
-ghost use Rattle.std.specs.Prelude.{Some};
+ghost use Rattle.std.specs.Prelude.{◌≡◌, Some};
 ghost use Rattle.sheet_words.specs.Words.{ParsesWord, spelling};
 
 use crate::faults::Complaint;
@@ -27,11 +27,11 @@ impl FromStr for Word {
     }
 }
 
-impl fmt::Display for Word {
-    ghost output = { λ word. Some (spelling word) };
-
-    fn fmt<W: fmt::Write>(&self, f: &mut fmt::Formatter<W>) -> fmt::Result {
-        f.write_str(match self {
+impl Word {
+    pub fn text(self) -> &'static str
+        ensures { result.now ≡ spelling self }
+    {
+        match self {
             Word::Programme => "programme",
             Word::Account => "account",
             Word::Month => "month",
@@ -39,6 +39,14 @@ impl fmt::Display for Word {
             Word::Reduction => "reduction",
             Word::Hours => "hours",
             Word::Event => "event",
-        })
+        }
+    }
+}
+
+impl fmt::Display for Word {
+    ghost output = { λ word. Some (spelling word) };
+
+    fn fmt<W: fmt::Write>(&self, f: &mut fmt::Formatter<W>) -> fmt::Result {
+        f.write_str(self.text())
     }
 }
