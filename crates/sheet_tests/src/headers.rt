@@ -13,7 +13,7 @@ fn said(heap: Global, text: &[u8]) -> Result<String, AllocError> {
 }
 
 // Whether this is said of a sheet, and nothing else.
-pub fn says(heap: Global, text: &[u8], expected: &str) -> Result<(), Fail> {
+pub(crate) fn says(heap: Global, text: &[u8], expected: &str) -> Result<(), Fail> {
     let answer = said(heap, text)?;
     if answer.as_str() != expected {
         return Err(Fail::new(format_args!("{answer:?} and not {expected:?}")));
