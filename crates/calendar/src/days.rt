@@ -10,7 +10,8 @@ use super::months::{Month, first_days};
 use super::weekdays::Weekday;
 use std::fmt;
 
-// `Day`, `Month` and `Quarter` are three types, since one `UpTo<LAST>` would call a day `UpTo<10957>` in each signature and message.
+// `Day`, `Month` and `Quarter` are three types: each has a width, methods and a text of its own, and one `UpTo<LAST>` would share
+// no more than the lines of `new` and `number`.
 #[derive(Clone, Copy, PartialEq, Eq, Debug)]
 pub struct Day {
     pub(crate) number: u16,
@@ -20,7 +21,7 @@ pub struct Day {
 impl Day {
     pub const LAST: u16 = 10957;
 
-    // None, as of `NonZero::new`: the error type of a `TryFrom`, or of a `FromStr` for `read`, would say no more.
+    // An `Option`, as `NonZero::new` answers: that the number is too high is all that there is to say.
     // By `if`: a closure for `then` would need the range of the day that it makes as a clause of its own.
     pub fn new(number: u16) -> Option<Day>
         ensures { option_map (λ d. d.number) result ≡ (if nat_le number 10957 then Some number else None) }
@@ -32,6 +33,7 @@ impl Day {
         }
     }
 
+    // By its name, which says what number it is, where `u16::from(day)` would not.
     pub fn number(self) -> u16
         ensures { result ≡ self.number }
     {
@@ -52,7 +54,7 @@ impl Day {
         ensures inside { self.number < first_day result.number + month_length result.number }
     {
         let begun = first_days().partition_point(|first| *first <= self.number);
-        // `as` where a proof shows that nothing is lost: a `TryFrom` would need a refusal that cannot come
+        // `as` where a proof shows that nothing is lost: `u16::try_from(..).unwrap()` would ask for the same proof and say no more
         Month {
             number: begun as u16 - 1,
         }
@@ -73,11 +75,12 @@ impl Day {
         ensures ascii { IsAscii result }
     {
         let [a, b, c, d, e, f, g] = self.month().text();
+        // `as`, as in `month`
         let [h, i] = two_digits(self.day_of_month() as u8);
         [a, b, c, d, e, f, g, b'-', h, i]
     }
 
-    // The day that has this text, and no other text is read.
+    // The day that has this text, and no other text is read. Any bytes may come, where a `FromStr` would take text alone.
     pub fn read(text: &[u8]) -> Option<Day>
         ensures { Reads date_text 10957 text.now (option_map (λ d. d.number) result) }
     {
@@ -86,6 +89,7 @@ impl Day {
         };
         let month = Month::read(month)?;
         let day = u16::from(read_two(*tens, *ones)?);
+        // by `if`, as in `new`
         if (1..=month.length()).contains(&day) {
             Some(Day {
                 number: month.first_day().number + day - 1,

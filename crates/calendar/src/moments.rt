@@ -4,6 +4,7 @@ ghost use Rattle.calendar.specs.Moments.{moment_count, in_calendar};
 
 use super::days::Day;
 use super::quarters::Quarter;
+use limits::QUARTERS;
 
 // A pair of any two numbers: `in_range` says whether they are a moment of the calendar.
 #[derive(Clone, Copy, PartialEq, Eq, Debug)]
@@ -17,7 +18,8 @@ impl Moment {
     pub fn count(self) -> u32
         ensures { result ≡ moment_count self.day self.quarter }
     {
-        96 * u32::from(self.day) + u32::from(self.quarter)
+        // `as` of a constant, as in `Quarter::LAST`
+        QUARTERS as u32 * u32::from(self.day) + u32::from(self.quarter)
     }
 
     pub fn in_range(self) -> bool

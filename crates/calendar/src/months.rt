@@ -58,7 +58,7 @@ fn is_leap(year: u16) -> bool
 impl Month {
     pub const LAST: u16 = 359;
 
-    // `new`, `number`, `read` and `text` are as a day's, for the reasons that stand there; so is what `as` narrows.
+    // `new`, `number`, `read` and `text` are as a day's, for the reasons that stand there.
     pub fn new(number: u16) -> Option<Month>
         ensures { option_map (λ m. m.number) result ≡ (if nat_le number 359 then Some number else None) }
     {
@@ -85,6 +85,7 @@ impl Month {
     pub fn calendar_month(self) -> u8
         ensures { result ≡ calendar_month self.number }
     {
+        // `as`, as in `Day::month`
         (self.number % 12) as u8 + 1
     }
 
@@ -117,6 +118,7 @@ impl Month {
         ensures ascii { IsAscii result }
     {
         let year = self.year();
+        // `as`, twice, as in `Day::month`
         let [a, b] = two_digits((year / 100) as u8);
         let [c, d] = two_digits((year % 100) as u8);
         let [e, f] = two_digits(self.calendar_month());

@@ -4,6 +4,7 @@ ghost use Rattle.calendar.specs.Texts.{Reads, time_text};
 ghost use Rattle.std.specs.Option.{option_map};
 
 use super::digits::{ascii, read_two, two_digits};
+use limits::QUARTERS;
 use std::fmt;
 
 // Quarter 0 begins at 00:00, and quarter 40 at 10:00.
@@ -14,7 +15,8 @@ pub struct Quarter {
 }
 
 impl Quarter {
-    pub const LAST: u8 = 95;
+    // `as` in a constant, where no conversion can be called
+    pub const LAST: u8 = QUARTERS as u8 - 1;
 
     // `new`, `number`, `read` and `text` are as a day's, for the reasons that stand there.
     pub fn new(number: u8) -> Option<Quarter>
@@ -52,6 +54,7 @@ impl Quarter {
         };
         let hour = read_two(a, b)?;
         let minute = read_two(c, d)?;
+        // by `if`, as in a day's `new`
         if hour < 24 && minute < 60 && minute % 15 == 0 {
             Some(Quarter {
                 number: 4 * hour + minute / 15,

@@ -58,7 +58,7 @@ fn ten_to(exponent: usize) -> u64
     ensures is { result ≡ 10 ^ exponent }
     ensures small { result ≤ 1000 }
 {
-    // at most 3, so that `as` loses nothing
+    // at most 3, so that `as` loses nothing; `u32::try_from(..).unwrap()` would ask for the same proof and say no more
     10u64.pow(exponent as u32)
 }
 

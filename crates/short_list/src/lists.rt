@@ -3,8 +3,8 @@
 ghost use Rattle.std.specs.Prelude.{◌≤◌, length};
 
 // At most N values, in the order in which they came.
-// An array and a count, in place, since settling takes no memory. It is `Copy` and holds any `Copy` type, and must stay so
-// for its callers: the kit's `ArrayVec` is not `Copy`, and asks for a default.
+// An array and a count, in place, since a baseline's days are such a list and take no memory. It is `Copy`, holds any `Copy` type,
+// and must stay so for its callers: the kit's `ArrayVec` is not `Copy`, and asks for a default.
 pub struct Short<T, const N: usize> {
     pub(crate) items: [T; N],
     pub(crate) count: usize,

@@ -6,6 +6,7 @@ ghost use Rattle.short_list.specs.Listed.{listed, pushed};
 use crate::lists::Short;
 use std::alloc::AllocError;
 
+// By hand, as `Copy`.
 impl<T: Copy, const N: usize> Clone for Short<T, N> {
     ghost is_clone = { λ x y. y ≡ x };
 
