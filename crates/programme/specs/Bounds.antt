@@ -1,5 +1,6 @@
 -- Which terms, prices and figures may be settled at all, and which terms a programme lets an account agree on.
 use Rattle.std.specs.Prelude.{ℕ, ◌+◌, ◌*◌, Bool, false, ◌&&◌, nat_le, slice_index_or}
+use Rattle.programme.specs.declared.dispatches.Dispatch.{Dispatch}
 use Rattle.programme.specs.declared.terms.Terms.{Terms}
 use Rattle.programme.specs.declared.figures.Figures.{Figures}
 use Rattle.programme.specs.declared.figures.Fold.{Fold}
@@ -49,3 +50,7 @@ lawful_price price = nat_le price 1000
 -- What an event can be settled from: lawful terms, a lawful price, figures that lawful readings can give.
 abbrev pub settleable : Figures → Terms → ℕ → ℕ → ℕ → Bool
 settleable f t price baseline load = lawful_terms t && lawful_price price && from_readings f (quarters t) baseline load
+
+-- A dispatch can be settled if its price and its figures can; nothing depends on its lateness.
+abbrev pub can_settle : Figures → Terms → Dispatch → Bool
+can_settle f t d = settleable f t d.price d.baseline d.event_load

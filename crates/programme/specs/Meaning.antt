@@ -1,5 +1,6 @@
 -- What a programme means, and the laws that every programme keeps.
 use Rattle.std.specs.Prelude.{◌≡◌, ℕ, ◌+◌, ◌<◌, ◌≤◌, max, Bool, true, false, length, slice_index_or}
+use Rattle.programme.specs.declared.dispatches.Dispatch.{Dispatch}
 use Rattle.programme.specs.declared.terms.Terms.{Terms}
 use Rattle.programme.specs.declared.figures.Figures.{Figures}
 use Rattle.programme.specs.declared.figures.Fold.{Fold}
@@ -13,6 +14,10 @@ pub record Meaning : Type 0 where
   pub figures : Figures
   pub event : Terms → ℕ → Bool → ℕ → ℕ → ℕ × ℕ × ℕ
   pub basic : Terms → ℕ → ℕ → ℕ
+
+-- What a programme pays for a dispatch: credit, surcharge and 1 for a missed event, else 0.
+abbrev pub paid : Meaning → Terms → Dispatch → ℕ × ℕ × ℕ
+paid m t d = m.event t d.price d.late d.baseline d.event_load
 
 -- The ranges of the fixed figures.
 pub record LawfulFigures (f : Figures) : Type 0 where

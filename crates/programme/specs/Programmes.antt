@@ -50,7 +50,12 @@ letter_of Economic = 69
 letter_of JointBidding = 74
 letter_of Reliable = 82
 
--- What a letter names: the programme that has it; or itself, where no programme has it.
+-- What a letter names: the programme that has it, or none where no programme has it.
 abbrev pub NamesProgramme : ℕ → Result Code UnknownProgramme → Type 0
 NamesProgramme letter result =
-    MatchResult result (λ code. letter ≡ letter_of code) (λ unknown. (unknown.0 ≡ letter) × ((code : Code) → letter ≢ letter_of code))
+    MatchResult result (λ code. letter ≡ letter_of code) (λ _. (code : Code) → letter ≢ letter_of code)
+
+-- What a text names: the programme whose letter it is, and nothing but the letter; or none.
+abbrev pub ParsesProgramme : List ℕ → Result Code UnknownProgramme → Type 0
+ParsesProgramme text result =
+    MatchResult result (λ code. text ≡ letter_of code ∷ []) (λ _. (code : Code) → text ≢ letter_of code ∷ [])

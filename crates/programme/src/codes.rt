@@ -1,12 +1,12 @@
 // The programmes that can be named by a letter.
 
-#[derive(Clone, Copy)]
+#[derive(Clone, Copy, PartialEq, Eq, Debug)]
 pub enum Code {
     Economic,
     JointBidding,
     Reliable,
 }
 
-// A letter that no programme has.
-#[derive(Clone, Copy)]
-pub struct UnknownProgramme(pub char);
+// What stands for no programme.
+#[derive(Clone, Copy, PartialEq, Eq, Debug)]
+pub struct UnknownProgramme;

@@ -1,10 +1,10 @@
 // What an event is paid by.
 
-#[derive(Clone, Copy)]
+#[derive(Clone, Copy, PartialEq, Eq, Debug)]
 pub struct Dispatch {
     // the price offered, in hundredths of a dollar per kWh
     pub price: u16,
-    // whether the notice was late
+    // whether the notice was late: a yes or no, as the event function takes it
     pub late: bool,
     // the windows of the baseline days, measured and added up, in W
     pub baseline: u64,

@@ -1,15 +1,15 @@
 // The fixed figures of a programme.
 
 // How the readings of a window make one figure: added up, or the largest of them.
-#[derive(Clone, Copy)]
+#[derive(Clone, Copy, PartialEq, Eq, Debug)]
 pub enum Fold {
     Sum,
     Peak,
 }
 
-#[derive(Clone, Copy)]
+#[derive(Clone, Copy, PartialEq, Eq, Debug)]
 pub struct Figures {
-    // the letter that stands for the programme, as the byte that a statement writes
+    // the letter that stands for the programme, as a byte, one fixed figure among the others; elsewhere a programme is a `Code`
     pub code: u8,
     // how many business days make the baseline
     pub baseline_days: u8,

@@ -9,7 +9,8 @@ use crate::dispatches::Dispatch;
 use crate::payables::Payable;
 use crate::terms::Terms;
 
-// a / b rounded to the nearest whole number, a half upward.
+// a / b rounded to the nearest whole number, a half upward. Of amounts in their ranges: what an account only shows is rounded there,
+// for any two numbers.
 fn rounded(a: u64, b: u64) -> u64
     requires { (0 < b) × (b ≤ 1000000000) × (a ≤ 1000000000000000000) }
     ensures value { result ≡ rounded_ratio a b }
@@ -115,7 +116,7 @@ impl Payable {
     }
 }
 
-// The month function of reliable bidding.
+// The month function of reliable bidding, whose premise is that of the trait's.
 pub(crate) fn reliable_basic(terms: Terms, events: u8, missed: u8) -> u64
     requires { lawful_terms terms ≡ true }
     ensures { result ≡ reliable_basic terms events missed }

@@ -2,14 +2,16 @@
 
 ghost use Rattle.std.specs.Prelude.{◌≡◌, true};
 ghost use Rattle.std.specs.Option.{SomeIff};
-ghost use Rattle.programme.specs.Bounds.{lawful_terms, settleable};
-ghost use Rattle.programme.specs.Programmes.{NamesProgramme, letter_of, meaning_of};
+ghost use Rattle.programme.specs.Bounds.{can_settle, lawful_terms};
+ghost use Rattle.programme.specs.Meaning.{paid};
+ghost use Rattle.programme.specs.Programmes.{NamesProgramme, ParsesProgramme, letter_of, meaning_of};
 
 use crate::codes::{Code, UnknownProgramme};
 use crate::dispatches::Dispatch;
 use crate::figures::Figures;
 use crate::programmes::{Economic, JointBidding, Programme, Reliable};
 use crate::terms::Terms;
+use std::str::FromStr;
 
 impl TryFrom<char> for Code {
     type Error = UnknownProgramme;
@@ -21,8 +23,20 @@ impl TryFrom<char> for Code {
             'E' => Ok(Code::Economic),
             'J' => Ok(Code::JointBidding),
             'R' => Ok(Code::Reliable),
-            _ => Err(UnknownProgramme(letter)),
+            _ => Err(UnknownProgramme),
         }
+    }
+}
+
+impl FromStr for Code {
+    type Err = UnknownProgramme;
+
+    ghost from_str_gives = { ParsesProgramme };
+
+    #[tactic(auto, using(crate::proofs::Spelling::named, crate::proofs::Spelling::unnamed))]
+    fn from_str(text: &str) -> Result<Code, UnknownProgramme> {
+        let letter: char = text.parse().map_err(|_| UnknownProgramme)?;
+        Code::try_from(letter)
     }
 }
 
@@ -52,16 +66,16 @@ impl Code {
 
     // Credit, surcharge, and 1 for a missed event, else 0; nothing where terms, price or figures are out of range.
     pub fn event(self, terms: Terms, dispatch: Dispatch) -> Option<(u64, u64, u64)>
-        ensures { SomeIff result (settleable (meaning_of self).figures terms dispatch.price dispatch.baseline dispatch.event_load ≡ true) ((meaning_of self).event terms dispatch.price dispatch.late dispatch.baseline dispatch.event_load) }
+        ensures { SomeIff result (can_settle (meaning_of self).figures terms dispatch ≡ true) (paid (meaning_of self) terms dispatch) }
     {
         if !self.figures().can_settle(terms, dispatch) {
             return None;
         }
-        match self {
-            Code::Economic => Some(Economic::event(terms, dispatch)),
-            Code::JointBidding => Some(JointBidding::event(terms, dispatch)),
-            Code::Reliable => Some(Reliable::event(terms, dispatch)),
-        }
+        Some(match self {
+            Code::Economic => Economic::event(terms, dispatch),
+            Code::JointBidding => JointBidding::event(terms, dispatch),
+            Code::Reliable => Reliable::event(terms, dispatch),
+        })
     }
 
     // The basic credit of a month; nothing where the terms are out of range.
@@ -71,10 +85,10 @@ impl Code {
         if !terms.lawful() {
             return None;
         }
-        match self {
-            Code::Economic => Some(Economic::basic(terms, events, missed)),
-            Code::JointBidding => Some(JointBidding::basic(terms, events, missed)),
-            Code::Reliable => Some(Reliable::basic(terms, events, missed)),
-        }
+        Some(match self {
+            Code::Economic => Economic::basic(terms, events, missed),
+            Code::JointBidding => JointBidding::basic(terms, events, missed),
+            Code::Reliable => Reliable::basic(terms, events, missed),
+        })
     }
 }

@@ -1,8 +1,8 @@
 // What a programme is, and the three that there are.
 
 ghost use Rattle.std.specs.Prelude.{◌≡◌, true};
-ghost use Rattle.programme.specs.Bounds.{lawful_terms, settleable};
-ghost use Rattle.programme.specs.Meaning.{Lawful, Meaning};
+ghost use Rattle.programme.specs.Bounds.{can_settle, lawful_terms};
+ghost use Rattle.programme.specs.Meaning.{Lawful, Meaning, paid};
 ghost use Rattle.programme.specs.Programmes.{economic, joint_bidding, reliable};
 ghost use Rattle.programme.specs.Amounts.{lawful_economic, lawful_joint_bidding, lawful_reliable};
 ghost use Rattle.std.proofs.Common.{rules};
@@ -14,7 +14,8 @@ use crate::measures::{Measure, Peak, Sum};
 use crate::payables::Payable;
 use crate::terms::Terms;
 
-// Its fixed figures are associated constants, and its event function answers plain numbers: rules of the project.
+// Its fixed figures are associated constants, its letter among them as a byte, and its event function answers plain numbers:
+// rules of the project. Elsewhere a programme is a `Code`.
 pub trait Programme {
     const CODE: u8;
 
@@ -46,10 +47,11 @@ pub trait Programme {
 
     // Credit, surcharge, and 1 for a missed event, else 0.
     fn event(terms: Terms, dispatch: Dispatch) -> (u64, u64, u64)
-        requires { settleable meaning.figures terms dispatch.price dispatch.baseline dispatch.event_load ≡ true }
-        ensures { result ≡ meaning.event terms dispatch.price dispatch.late dispatch.baseline dispatch.event_load };
+        requires { can_settle meaning.figures terms dispatch ≡ true }
+        ensures { result ≡ paid meaning terms dispatch };
 
-    // The basic credit of a month with so many events and so many missed.
+    // The basic credit of a month with so many events and so many missed. Lawful terms are a premise: `Payable` has them beside an event,
+    // which a month's credit has not, and a type of terms alone would be made and taken apart for this one call.
     fn basic(terms: Terms, events: u8, missed: u8) -> u64
         requires { lawful_terms terms ≡ true }
         ensures { result ≡ meaning.basic terms events missed };

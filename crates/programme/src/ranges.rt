@@ -1,14 +1,12 @@
 // Which terms, prices and figures may be settled, and which terms a programme lets an account agree on.
 
 ghost use Rattle.std.specs.Prelude.{◌≡◌};
-ghost use Rattle.programme.specs.Bounds.{allowed_terms, ends_by_midnight, from_readings, in_season, lawful_price, lawful_terms, most, parts, quarters, settleable};
+ghost use Rattle.programme.specs.Bounds.{allowed_terms, can_settle, ends_by_midnight, from_readings, in_season, lawful_price, lawful_terms, most, parts, quarters};
 
 use crate::dispatches::Dispatch;
 use crate::figures::{Figures, Fold};
 use crate::terms::Terms;
-
-// The highest demand that a reading can have.
-const LIMIT_WATTS: u64 = 200_000_000;
+use limits::{MOST_WATTS, QUARTERS};
 
 // Whether a price, in hundredths of a dollar per kWh, may be offered.
 pub fn lawful_price(price: u16) -> bool
@@ -38,7 +36,7 @@ impl Terms {
     pub fn ends_by_midnight(self, start: u8) -> bool
         ensures { result ≡ ends_by_midnight self start }
     {
-        u16::from(start) + self.quarters() <= 96
+        usize::from(u16::from(start) + self.quarters()) <= QUARTERS
     }
 }
 
@@ -58,7 +56,7 @@ impl Fold {
     pub fn most(self, n: u16) -> u64
         ensures { result ≡ most self n }
     {
-        self.parts(1, n) * LIMIT_WATTS
+        self.parts(1, n) * u64::from(MOST_WATTS)
     }
 }
 
@@ -89,7 +87,7 @@ impl Figures {
 
     // Whether an event can be settled from these terms, this price and these figures.
     pub fn can_settle(self, terms: Terms, dispatch: Dispatch) -> bool
-        ensures { result ≡ settleable self terms dispatch.price dispatch.baseline dispatch.event_load }
+        ensures { result ≡ can_settle self terms dispatch }
     {
         terms.lawful()
             && lawful_price(dispatch.price)

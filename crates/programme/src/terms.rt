@@ -1,6 +1,6 @@
 // What an account and the utility agreed on.
 
-#[derive(Clone, Copy)]
+#[derive(Clone, Copy, PartialEq, Eq, Debug)]
 pub struct Terms {
     // the account's contract capacity
     pub capacity_kw: u32,
