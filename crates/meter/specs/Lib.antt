@@ -1,4 +1,5 @@
 pub mod Readings
 pub mod Tables
 pub mod Reads
+pub mod Changes
 pub mod Groups
