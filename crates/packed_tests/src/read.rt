@@ -1,7 +1,7 @@
 use crate::samples::SAMPLE;
 use meter::Meter;
 use packed::PackedFile;
-use packed_index::{IndexedFile, OpenFault};
+use packed_index::IndexedFile;
 use std::process::Abort;
 use std::test::Fail;
 
@@ -20,23 +20,22 @@ fn tells_the_sample<M: Meter>(rt: &impl Abort, meter: &M) -> Result<(), Fail> {
 
 #[test]
 fn reads(rt: HostRuntime) -> Result<(), Fail> {
-    let file = PackedFile::open(&SAMPLE).ok().ok_or("refused")?;
+    let file = PackedFile::open(&SAMPLE).map_err(Fail::new)?;
     tells_the_sample(&rt, &file)
 }
 
 #[test]
 fn reads_by_index(rt: HostRuntime) -> Result<(), Fail> {
     let bytes = SAMPLE.to_vec(rt.alloc())?;
-    match IndexedFile::open(rt.alloc(), bytes) {
-        Ok(file) => tells_the_sample(&rt, &file),
-        Err(OpenFault::Unlawful(_)) => Err(Fail::new("refused")),
-        Err(OpenFault::NoMemory) => Err(Fail::new("no memory")),
-    }
+    let file = IndexedFile::open(rt.alloc(), bytes).map_err(|fault| Fail::new(format_args!(
+        "{fault:?}"
+    )))?;
+    tells_the_sample(&rt, &file)
 }
 
 #[test]
 fn walks(rt: HostRuntime) -> Result<(), Fail> {
-    let file = PackedFile::open(&SAMPLE).ok().ok_or("refused")?;
+    let file = PackedFile::open(&SAMPLE).map_err(Fail::new)?;
     // collected, since `count` asks for a proof that the number fits, which no search finds for a `flat_map`
     let readings: Vec<u32> = file
         .records()
@@ -51,7 +50,7 @@ fn walks(rt: HostRuntime) -> Result<(), Fail> {
 
 #[test]
 fn empty_file(rt: HostRuntime) -> Result<(), Fail> {
-    let file = PackedFile::open(&[]).ok().ok_or("refused")?;
+    let file = PackedFile::open(&[]).map_err(Fail::new)?;
     assert_eq!(rt; file.reading(0, 5, 0), None);
     Ok(())
 }

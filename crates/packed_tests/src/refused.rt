@@ -2,6 +2,7 @@
 
 use crate::samples::SAMPLE;
 use packed::PackedFile;
+use std::test::Fail;
 
 // The number and the byte by which bytes are refused, or nothing where they are opened.
 // A refusal stands by its number, which the rules fix.
@@ -35,35 +36,29 @@ const SPOILT: [(usize, u8, u8, usize); 14] = [
 ];
 
 #[test]
-fn spoilt_bytes_are_refused(rt: HostRuntime) {
+fn spoilt_bytes_are_refused(rt: HostRuntime) -> Result<(), Fail> {
     for (at, byte, number, offset) in SPOILT {
         let mut bytes = SAMPLE;
-        if at < bytes.len() {
-            bytes[at] = byte;
-        }
+        *bytes.get_mut(at).ok_or("beyond the sample")? = byte;
         assert_eq!(rt; refused(&bytes), Some((number, offset)));
     }
+    Ok(())
 }
 
 // The sample cut at every length: lawful where a record ends, else in the head or in the readings of the record that was cut.
 #[test]
 fn every_cut_is_told(rt: HostRuntime) {
     for len in 0..62 {
-        let begins = if len < 23 {
-            0
-        } else if len < 42 {
-            23
-        } else if len < 61 {
-            42
-        } else {
-            61
+        let begins = match len {
+            0..=22 => 0,
+            23..=41 => 23,
+            42..=60 => 42,
+            _ => 61,
         };
-        let told = if len == begins {
-            None
-        } else if len < begins + 15 {
-            Some((29, begins))
-        } else {
-            Some((33, begins))
+        let told = match len - begins {
+            0 => None,
+            1..=14 => Some((29, begins)),
+            _ => Some((33, begins)),
         };
         assert_eq!(rt; refused(&SAMPLE[..len]), told);
     }
