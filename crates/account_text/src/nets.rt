@@ -1,6 +1,6 @@
 // The balance of a month: paid to the account, or owed by it.
 
-#[derive(Clone, Copy)]
+#[derive(Clone, Copy, PartialEq, Eq, Debug)]
 pub enum Net {
     Paid(u64),
     Owed(u64),

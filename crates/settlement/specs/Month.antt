@@ -1,7 +1,7 @@
 -- What a month of events comes to, and what settling it answers.
 use Rattle.std.specs.Prelude.{◌≡◌, ℕ, ◌<◌, List, length, take, Some, None, Ok, Err, sum_by, Option, Result, slice_index_or}
 use Rattle.refusal.specs.Answers.{answer_of}
-use Rattle.programme.specs.Meaning.{Meaning}
+use Rattle.programme.specs.Meaning.{Meaning, paid}
 use Rattle.programme.specs.Programmes.{meaning_of}
 use Rattle.programme.specs.declared.terms.Terms.{Terms}
 use Rattle.settlement.specs.Checks.{agreement_test, event_test}
@@ -12,7 +12,7 @@ use Rattle.settlement.specs.declared.events.Totals.{Totals}
 
 -- Credit, surcharge and missed of one event, by a programme's event function.
 abbrev pub amounts : Meaning → Terms → Event → ℕ × ℕ × ℕ
-amounts m t e = m.event t e.dispatch.price e.dispatch.late e.dispatch.baseline e.dispatch.event_load
+amounts m t e = paid m t e.dispatch
 
 -- How many of the events were missed.
 abbrev pub missed_of : Meaning → Terms → List Event → ℕ

@@ -9,6 +9,7 @@ ghost use Rattle.settlement.specs.Month.{Names, Passed};
 use crate::called::Called;
 use crate::events::{Agreement, Event, Refused};
 use calendar::Day;
+use limits::ACCOUNTS;
 use programme::lawful_price;
 use refusal::Refusal;
 
@@ -24,7 +25,7 @@ impl Agreement {
     pub fn check(self) -> Result<(), Refusal>
         ensures { told result ≡ plain (agreement_test self) }
     {
-        if self.account > 7 {
+        if self.account >= ACCOUNTS {
             return Err(Refusal::NoSuchAccount);
         }
         if !self.code.figures().allows(self.terms) {
@@ -74,6 +75,7 @@ impl Agreement {
         ensures first { MatchResult result (λ _. Passed self (map E.event events.now) (length events.now)) (Names self (map E.event events.now)) }
         ensures few { OnOk result (length events.now ≤ 18) }
     {
+        // with its place, by which the earlier events are cut off and a refusal names the event
         for (i, called) in events.iter().enumerate() {
             self.check_event(&events[..i], called.event())
                 .map_err(move |refusal| Refused {

@@ -5,7 +5,7 @@ use programme::{Code, Dispatch, Terms};
 use refusal::Refusal;
 
 // What an account agreed on, and under which programme.
-#[derive(Clone, Copy)]
+#[derive(Clone, Copy, PartialEq, Eq, Debug)]
 pub struct Agreement {
     pub code: Code,
     pub account: u8,
@@ -13,7 +13,7 @@ pub struct Agreement {
 }
 
 // A day on which the account was called.
-#[derive(Clone, Copy)]
+#[derive(Clone, Copy, PartialEq, Eq, Debug)]
 pub struct Event {
     pub day: Day,
     pub start: Quarter,
@@ -21,7 +21,7 @@ pub struct Event {
 }
 
 // What a month comes to, in dollars.
-#[derive(Clone, Copy)]
+#[derive(Clone, Copy, PartialEq, Eq, Debug)]
 pub struct Totals {
     pub events: u8,
     pub missed: u8,
@@ -31,7 +31,7 @@ pub struct Totals {
 }
 
 // Which event was refused, counted from 0, or none where the agreement was; and why.
-#[derive(Clone, Copy)]
+#[derive(Clone, Copy, PartialEq, Eq, Debug)]
 pub struct Refused {
     pub event: Option<usize>,
     pub refusal: Refusal,

@@ -1,7 +1,7 @@
 // Settling a month: the checks first, then the amounts.
 
 ghost use Rattle.std.specs.Prelude.{◌≡◌, ◌≤◌, true, length, map, All};
-ghost use Rattle.programme.specs.Bounds.{lawful_terms, settleable};
+ghost use Rattle.programme.specs.Bounds.{can_settle, lawful_terms};
 ghost use Rattle.settlement.specs.Month.{Settles, totals};
 ghost use Rattle.settlement.specs.Worked.{WorkedFigures};
 
@@ -14,7 +14,7 @@ use programme::{Code, Dispatch, Economic, JointBidding, Programme, Reliable, Ter
 fn add_up<P: Programme, E: Called>(terms: Terms, events: &[E]) -> Totals
     requires few { length events.now ≤ 18 }
     requires lawful { lawful_terms terms ≡ true }
-    requires each { All (λ e. settleable P.Programme.meaning.figures terms (E.event e).dispatch.price (E.event e).dispatch.baseline (E.event e).dispatch.event_load ≡ true) events.now }
+    requires each { All (λ e. can_settle P.Programme.meaning.figures terms (E.event e).dispatch ≡ true) events.now }
     ensures { result ≡ totals P.Programme.meaning terms (map E.event events.now) }
 {
     let mut missed: u8 = 0;
@@ -49,14 +49,14 @@ pub fn settle_month<E: Called>(agreement: Agreement, events: &[E]) -> Result<Tot
     agreement.check_events(events)?;
     let terms = agreement.terms;
     // each arm adds up by a type of its own, and a letter is known to name one only here
-    match agreement.code {
-        Code::Economic => Ok(add_up::<Economic, E>(terms, events)),
-        Code::JointBidding => Ok(add_up::<JointBidding, E>(terms, events)),
-        Code::Reliable => Ok(add_up::<Reliable, E>(terms, events)),
-    }
+    Ok(match agreement.code {
+        Code::Economic => add_up::<Economic, E>(terms, events),
+        Code::JointBidding => add_up::<JointBidding, E>(terms, events),
+        Code::Reliable => add_up::<Reliable, E>(terms, events),
+    })
 }
 
-// The worked examples, as a theorem of the definitions above.
+// The worked examples, as a theorem of the definitions.
 #[tactic(auto, unfolding(calendar::specs::Months::first_day))]
 pub fn worked_figures()
     ensures { WorkedFigures }

@@ -18,20 +18,20 @@ fn on_line(line: usize, fault: LineFault) -> SheetFault {
     }
 }
 
-// Takes a line's word of the header over into the draft, or answers the line's event. A header is complete before its first event,
-// and none of its words comes after.
+// Takes a line's word of the header over into the draft, or answers the line's event, which comes after the events of the lines before.
+// A header is complete before its first event, and none of its words comes after.
 fn read_line(
     heap: Global,
     draft: &mut Draft,
-    begun: bool,
+    events: &[Noted<Event>],
     number: usize,
     line: &str,
 ) -> Result<Option<Event>, LineFault>
-    ensures { IfOk result (λ event. Extends begun draft.old draft.new event) }
+    ensures { IfOk result (λ event. Extends events.now draft.old draft.new event) }
 {
     match parse(heap, line)? {
         Statement::Blank => Ok(None),
-        Statement::Header(word, _) if begun => Err(LineFault::TooLate(word)),
+        Statement::Header(word, _) if !events.is_empty() => Err(LineFault::TooLate(word)),
         Statement::Header(word, text) => {
             draft.take(heap, word, text, number)?;
             Ok(None)
@@ -65,7 +65,7 @@ impl Sheet {
         let mut draft = Draft::new();
         let mut events: Vec<Noted<Event>> = Vec::new(heap);
         for (number, line) in (1..).zip(text.lines()) {
-            let event = read_line(heap, &mut draft, !events.is_empty(), number, line).map_err(
+            let event = read_line(heap, &mut draft, events.as_slice(), number, line).map_err(
                 |fault| on_line(number, fault),
             )?;
             if let Some(value) = event {

@@ -12,10 +12,9 @@ impl Sheet {
     pub fn line_of(&self, event: Option<usize>) -> Option<usize>
         ensures { result ≡ line_at self.now event }
     {
-        match event {
-            Some(i) => self.events.get(i).map(|noted| noted.line),
-            None => Some(self.header.refused_line()),
-        }
+        event.map_or(Some(self.header.refused_line()), |i| {
+            self.events.get(i).map(|noted| noted.line)
+        })
     }
 
     // What the month comes to; or the line that is refused first, and why.

@@ -9,7 +9,7 @@ use std::test::Fail;
 fn settled(heap: Global, text: &[u8]) -> Result<Totals, Fail> {
     Sheet::read(heap, text)
         .and_then(|sheet| sheet.settle())
-        .map_err(|_| Fail::new("refused"))
+        .map_err(Fail::new)
 }
 
 // A saving, as the baseline to a load of 0, and what it pays at 6.00 dollars.
@@ -80,10 +80,6 @@ fn economic_events_pay(rt: HostRuntime) -> Result<(), Fail> {
     Ok(())
 }
 
-fn amounts(heap: Global, text: &[u8]) -> Result<(u64, u64, u64), Fail> {
-    settled(heap, text).map(|totals| (totals.basic, totals.credits, totals.surcharges))
-}
-
 const FOUR_EVENTS: &str =
     "event 2026-07-06 13:00 early 6.00 700kW 300kW\nevent 2026-07-07 13:00 early 6.00 700kW 300kW\nevent 2026-07-08 13:00 early 6.00 700kW 300kW\nevent 2026-07-09 13:00 early 6.00 700kW 300kW\n";
 
@@ -94,11 +90,29 @@ fn reliable_months_pay(rt: HostRuntime) -> Result<(), Fail> {
     let all = format!(in heap;
         "{RELIABLE}{FOUR_EVENTS}event 2026-07-10 13:00 early 6.00 700kW 300kW\nevent 2026-07-13 13:00 early 6.00 700kW 300kW\nevent 2026-07-14 13:00 early 6.00 700kW 300kW\n"
     )?;
-    assert_eq!(rt; amounts(heap, all.as_bytes())?, (21_600, 67_200, 0));
+    assert_eq!(rt;
+        settled(heap, all.as_bytes())?,
+        Totals {
+            events: 7,
+            missed: 0,
+            basic: 21_600,
+            credits: 67_200,
+            surcharges: 0,
+        }
+    );
     let some = format!(in heap;
         "{RELIABLE}{FOUR_EVENTS}event 2026-07-10 13:00 early 6.00 700kW 400kW\nevent 2026-07-13 13:00 early 6.00 700kW 400kW\nevent 2026-07-14 13:00 early 6.00 700kW 660kW\n"
     )?;
-    assert_eq!(rt; amounts(heap, some.as_bytes())?, (15_429, 52_800, 3120));
+    assert_eq!(rt;
+        settled(heap, some.as_bytes())?,
+        Totals {
+            events: 7,
+            missed: 1,
+            basic: 15_429,
+            credits: 52_800,
+            surcharges: 3120,
+        }
+    );
     Ok(())
 }
 
@@ -111,11 +125,25 @@ fn notations_agree(rt: HostRuntime) -> Result<(), Fail> {
         "{ECONOMIC}event 2026-07-06 13:00 early 5.55 400.125kW 200.5kW\n"
     )?;
     let sums = format!(in heap; "{ECONOMIC}event 2026-07-06 13:00 early 5.55 32010000 3208000\n")?;
-    assert_eq!(rt; amounts(heap, means.as_bytes())?, (0, 4432, 0));
-    assert_eq!(rt; amounts(heap, sums.as_bytes())?, (0, 4432, 0));
+    let economic = Totals {
+        events: 1,
+        missed: 0,
+        basic: 0,
+        credits: 4432,
+        surcharges: 0,
+    };
+    assert_eq!(rt; settled(heap, means.as_bytes())?, economic);
+    assert_eq!(rt; settled(heap, sums.as_bytes())?, economic);
     let means = format!(in heap; "{RELIABLE}event 2026-07-06 13:00 early 5.55 700.125kW 300kW\n")?;
     let peaks = format!(in heap; "{RELIABLE}event 2026-07-06 13:00 early 5.55 3500625 300000\n")?;
-    assert_eq!(rt; amounts(heap, means.as_bytes())?, (21_600, 8883, 0));
-    assert_eq!(rt; amounts(heap, peaks.as_bytes())?, (21_600, 8883, 0));
+    let reliable = Totals {
+        events: 1,
+        missed: 0,
+        basic: 21_600,
+        credits: 8883,
+        surcharges: 0,
+    };
+    assert_eq!(rt; settled(heap, means.as_bytes())?, reliable);
+    assert_eq!(rt; settled(heap, peaks.as_bytes())?, reliable);
     Ok(())
 }

@@ -1,6 +1,8 @@
 // Events that are refused, and where.
 
 use crate::headers::says;
+use std::alloc::Global;
+use std::fmt::Write;
 use std::test::Fail;
 
 pub const ECONOMIC: &str =
@@ -189,18 +191,33 @@ fn events_are_judged(rt: HostRuntime) -> Result<(), Fail> {
     Ok(())
 }
 
+// Whether events of four hours on these days of July reach a programme's cap, and one more passes it.
+fn keeps_a_cap(
+    heap: Global,
+    header: &str,
+    notice: &str,
+    days: &[&str],
+    next: &str,
+    refused: &str,
+) -> Result<(), Fail> {
+    let mut text = String::from_str(heap, header)?;
+    for day in days {
+        write!(text, "event 2026-07-{day} 13:00 {notice} 6.00 0 0\n")?;
+    }
+    says(heap, text.as_bytes(), "settled")?;
+    write!(text, "event 2026-07-{next} 13:00 early 6.00 0 0\n")?;
+    says(heap, text.as_bytes(), refused)
+}
+
 // Seven events of four hours reach reliable bidding's cap of 28 hours, and an eighth passes it.
 #[test]
 fn the_cap_is_kept(rt: HostRuntime) -> Result<(), Fail> {
-    let heap = rt.alloc();
-    let seven =
-        "event 2026-07-06 13:00 early 6.00 0 0\nevent 2026-07-07 13:00 early 6.00 0 0\nevent 2026-07-08 13:00 early 6.00 0 0\nevent 2026-07-09 13:00 early 6.00 0 0\nevent 2026-07-10 13:00 early 6.00 0 0\nevent 2026-07-13 13:00 early 6.00 0 0\nevent 2026-07-14 13:00 early 6.00 0 0\n";
-    let reached = format!(in heap; "{RELIABLE}{seven}")?;
-    says(rt.alloc(), reached.as_bytes(), "settled")?;
-    let passed = format!(in heap; "{RELIABLE}{seven}event 2026-07-15 13:00 early 6.00 0 0\n")?;
-    says(
+    keeps_a_cap(
         rt.alloc(),
-        passed.as_bytes(),
+        RELIABLE,
+        "early",
+        &["06", "07", "08", "09", "10", "13", "14"],
+        "15",
         "line 14: refusal 19: the month's hours pass the programme's cap",
     )
 }
@@ -208,17 +225,12 @@ fn the_cap_is_kept(rt: HostRuntime) -> Result<(), Fail> {
 // Nine events of four hours reach economic bidding's cap of 36 hours, and a tenth passes it.
 #[test]
 fn the_economic_cap_is_kept(rt: HostRuntime) -> Result<(), Fail> {
-    let heap = rt.alloc();
-    let mut text = String::from_str(heap, ECONOMIC)?;
-    for day in ["06", "07", "08", "09", "10", "13", "14", "15", "16"] {
-        let event = format!(in heap; "event 2026-07-{day} 13:00 late 6.00 0 0\n")?;
-        text.push_str(event.as_str())?;
-    }
-    says(rt.alloc(), text.as_bytes(), "settled")?;
-    text.push_str("event 2026-07-17 13:00 early 6.00 0 0\n")?;
-    says(
+    keeps_a_cap(
         rt.alloc(),
-        text.as_bytes(),
+        ECONOMIC,
+        "late",
+        &["06", "07", "08", "09", "10", "13", "14", "15", "16"],
+        "17",
         "line 16: refusal 19: the month's hours pass the programme's cap",
     )
 }

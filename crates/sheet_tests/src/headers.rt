@@ -139,8 +139,8 @@ fn headers_are_judged(rt: HostRuntime) -> Result<(), Fail> {
     judges(rt.alloc(), &CASES)
 }
 
-// A complete header with one value that is refused once the sheet is settled, at the line of that value.
-const REFUSED: [Case; 9] = [
+// Complete headers, with one value that is refused once the sheet is settled, at the line of that value, or with none.
+const AGREEMENTS: [Case; 9] = [
     Case {
         text: "programme E\naccount 8\nmonth 2026-07\ncapacity 500\nreduction 300\nhours 4\n",
         says: "line 2: refusal 2: there are only the accounts 0 to 7",
@@ -181,10 +181,10 @@ const REFUSED: [Case; 9] = [
 
 #[test]
 fn agreements_are_checked(rt: HostRuntime) -> Result<(), Fail> {
-    judges(rt.alloc(), &REFUSED)
+    judges(rt.alloc(), &AGREEMENTS)
 }
 
-// Bytes that are no text.
+// Bytes that are no text, or no words.
 #[test]
 fn random_bytes_are_refused(rt: HostRuntime) -> Result<(), Fail> {
     says(

@@ -1,4 +1,4 @@
-// Printed accounts: the second sample, economic bidding with every rate; and some that the samples lack.
+// Printed accounts: that of economic.sheet, which ships with `settle`, economic bidding with every rate; and some that the samples lack.
 
 use account_text::account;
 use std::test::Fail;
@@ -115,7 +115,7 @@ fn accounts_are_printed(rt: HostRuntime) -> Result<(), Fail> {
         (NO_EVENTS, NO_EVENTS_ACCOUNT),
     ];
     for (sheet, printed) in table {
-        let text = account(rt.alloc(), sheet.as_bytes()).map_err(|_| Fail::new("refused"))?;
+        let text = account(rt.alloc(), sheet.as_bytes()).map_err(Fail::new)?;
         assert_eq!(rt; text.as_str(), printed);
     }
     Ok(())

@@ -19,9 +19,7 @@ fn read_code(heap: Global, text: &str) -> Result<Code, LineFault>
     ensures { IfOk result (λ code. text.now ≡ letter_of code ∷ []) }
 {
     text.parse()
-        .ok()
-        .and_then(|letter: char| Code::try_from(letter).ok())
-        .ok_or_else(|| blame(heap, text, Complaint::UnknownProgramme))
+        .map_err(|_| blame(heap, text, Complaint::UnknownProgramme))
 }
 
 fn read_month(heap: Global, text: &str) -> Result<Month, LineFault>
@@ -60,13 +58,7 @@ impl Draft {
     pub fn is_empty(&self) -> bool
         ensures { result ≡ is_blank self.now }
     {
-        // six questions, as a draft has six places; `==` with the empty draft would have six types compared for it
-        self.code.is_none()
-            && self.account.is_none()
-            && self.month.is_none()
-            && self.capacity.is_none()
-            && self.reduction.is_none()
-            && self.hours.is_none()
+        *self == Draft::new()
     }
 
     // Takes over a header's statement.
@@ -91,6 +83,7 @@ impl Draft {
                 line,
             ),
             Word::Hours => note(&mut self.hours, word, count(heap, text, u8::MAX)?, line),
+            // an event's word is none of the header's: nothing to take
             Word::Event => Ok(()),
         }
     }

@@ -3,8 +3,8 @@
 use calendar::Month;
 use settlement::Agreement;
 
-// Where the header's words stand.
-#[derive(Clone, Copy)]
+// Where the header's words stand; beside the agreement and not in it, since the agreement is settled as a whole.
+#[derive(Clone, Copy, PartialEq, Eq, Debug)]
 pub struct HeaderLines {
     pub account: usize,
     pub capacity: usize,
@@ -12,7 +12,7 @@ pub struct HeaderLines {
     pub hours: usize,
 }
 
-#[derive(Clone, Copy)]
+#[derive(Clone, Copy, PartialEq, Eq, Debug)]
 pub struct Header {
     pub agreement: Agreement,
     pub month: Month,

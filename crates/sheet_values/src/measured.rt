@@ -1,6 +1,6 @@
 // The figures of an event, as a sheet gives them.
 
-#[derive(Clone, Copy)]
+#[derive(Clone, Copy, PartialEq, Eq, Debug)]
 pub enum Figure {
     // a demand in W: the mean over the window, or its peak, as the programme measures
     Demand(u64),

@@ -1,16 +1,16 @@
-// The header as far as it is read.
+// What is noted of a sheet with its line, and the header as far as it is read.
 
 use calendar::Month;
 use programme::Code;
 
 // A value and the line that it stands on.
-#[derive(Clone, Copy)]
+#[derive(Clone, Copy, PartialEq, Eq, Debug)]
 pub struct Noted<T> {
     pub value: T,
     pub line: usize,
 }
 
-#[derive(Clone, Copy, Default)]
+#[derive(Clone, Copy, PartialEq, Eq, Default, Debug)]
 pub struct Draft {
     pub code: Option<Noted<Code>>,
     pub account: Option<Noted<u8>>,

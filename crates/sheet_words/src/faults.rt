@@ -6,7 +6,7 @@ use refusal::Refusal;
 use std::alloc::{AllocError, AllocFailed};
 
 // Why a word cannot stand where it does.
-#[derive(Clone, Copy)]
+#[derive(Clone, Copy, PartialEq, Eq, Debug)]
 pub enum Complaint {
     UnknownWord,
     UnknownProgramme,

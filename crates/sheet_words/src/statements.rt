@@ -1,7 +1,7 @@
 // The statement of a line.
 
 use crate::blames::blame;
-use crate::faults::{Complaint, LineFault};
+use crate::faults::LineFault;
 use crate::keys::Word;
 use std::alloc::Global;
 
@@ -19,6 +19,7 @@ pub struct EventWords<'a> {
 #[derive(Clone, Copy)]
 pub enum Statement<'a> {
     Blank,
+    // any word but an event's: a type of those six would be turned into a `Word` by all that takes one, the draft and the faults
     Header(Word, &'a str),
     Event(EventWords<'a>),
 }
@@ -47,6 +48,7 @@ pub fn parse(heap: Global, line: &str) -> Result<Statement<'_>, LineFault> {
                 load,
             }))
         }
+        // `Statement::Header` says why a guard keeps the event's word out
         (header, [text]) if header != Word::Event => Ok(Statement::Header(header, text)),
         _ => Err(LineFault::WordCount {
             word,
