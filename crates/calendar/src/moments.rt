@@ -18,7 +18,7 @@ impl Moment {
     pub fn count(self) -> u32
         ensures { result ≡ moment_count self.day self.quarter }
     {
-        // `as` of a constant, as in `Quarter::LAST`
+        // `as` of the constant, which is 96, as in `Quarter::LAST`
         QUARTERS as u32 * u32::from(self.day) + u32::from(self.quarter)
     }
 

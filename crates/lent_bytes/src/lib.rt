@@ -6,7 +6,7 @@ ghost use Rattle.std.specs.Prelude.{◌≡◌, ◌+◌, ◌≤◌, ℕ, List, le
 ghost use Rattle.lent_bytes.specs.Numbers.{be16, be32, be64, be8};
 ghost use Rattle.lent_bytes.specs.Wrote.{spliced, Wrote};
 
-// Writes bytes from a place on.
+// Writes bytes from a place on. Buffer and place come apart, as in `put`.
 fn overwrite(buffer: &mut [u8], at: usize, bytes: &[u8])
     requires { at + length bytes.now ≤ length buffer.old }
     ensures { buffer.new ≡ spliced buffer.old at bytes.now }
@@ -66,7 +66,7 @@ impl Number<8> for u64 {
     }
 }
 
-// Writes a number from a place on, and answers the place after it.
+// Writes a number from a place on, and answers the place after it. Buffer and place come apart, as in `put`.
 pub fn put_number<const WIDTH: usize, T: Number<WIDTH>>(
     buffer: &mut [u8],
     at: usize,

@@ -140,6 +140,7 @@ mod tests {
             .err()
             .ok_or("two readings are absent")?
             .answer();
+        // number and places, which the rules fix
         assert_eq!(rt; (answer.number, answer.day, answer.quarter), (25, 100, 44));
         Ok(())
     }

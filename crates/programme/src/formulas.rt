@@ -34,7 +34,7 @@ impl Dispatch {
     }
 }
 
-// The rate in per cent at which economic bidding pays for a saving, for any n, where terms have only multiples of four.
+// The rate in per cent at which economic bidding pays for a saving, after a notice that is late or not, a yes or no as the event function takes it; for any n, where terms have only multiples of four.
 pub fn rate(late: bool, n: u16, reduction_kw: u32, saving: u64) -> u8
     ensures value { result ≡ rate_of late (50 * n * reduction_kw) saving }
     ensures most { result ≤ 120 }
@@ -61,7 +61,7 @@ pub fn below_lowest(lowest_kw: u32, n: u16, saving: u64) -> bool
 }
 
 impl Payable {
-    // The event function of economic and joint bidding, which have other lowest reductions.
+    // The event function of economic and joint bidding, which have other lowest reductions. Plain numbers, as the trait has them.
     pub(crate) fn economic(self, lowest_kw: u32) -> (u64, u64, u64)
         ensures { let d = self.dispatch in result ≡ economic_event lowest_kw self.terms d.price d.late d.baseline d.event_load }
     {
@@ -76,7 +76,7 @@ impl Payable {
         (credit, 0, 0)
     }
 
-    // The event function of reliable bidding, which asks nothing of the notice's lateness.
+    // The event function of reliable bidding, which asks nothing of the notice's lateness. Plain numbers, as the trait has them.
     pub(crate) fn reliable(self) -> (u64, u64, u64)
         ensures { let d = self.dispatch in result ≡ reliable_event self.terms d.price d.late d.baseline d.event_load }
     {

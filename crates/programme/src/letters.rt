@@ -52,7 +52,7 @@ impl From<Code> for char {
     }
 }
 
-// The three matches below each call a function of a type that is known only in its arm.
+// The three matches below each call a function of a type that is known only in its arm; the one above gives each programme its letter.
 impl Code {
     pub fn figures(self) -> Figures
         ensures { result ≡ (meaning_of self).figures }
@@ -64,7 +64,8 @@ impl Code {
         }
     }
 
-    // Credit, surcharge, and 1 for a missed event, else 0; nothing where terms, price or figures are out of range.
+    // Credit, surcharge, and 1 for a missed event, else 0, in plain numbers as the trait's event function answers them;
+    // nothing where terms, price or figures are out of range.
     pub fn event(self, terms: Terms, dispatch: Dispatch) -> Option<(u64, u64, u64)>
         ensures { SomeIff result (can_settle (meaning_of self).figures terms dispatch ≡ true) (paid (meaning_of self) terms dispatch) }
     {

@@ -35,7 +35,7 @@ fn at_byte(number: u8, offset: usize) -> Answer
 }
 
 impl Refusal {
-    // The number and the places, 0 where unused.
+    // The number and the places, 0 where unused: a rule of the project, by which every check's answer is promised.
     pub fn answer(self) -> Answer
         ensures { result ≡ answer_of self }
     {
@@ -86,6 +86,7 @@ impl Refusal {
         }
     }
 
+    // The number that the rules fix.
     pub fn number(self) -> u8
         ensures { result ≡ (answer_of self).number }
     {

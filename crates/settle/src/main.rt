@@ -10,6 +10,7 @@ use std::{env, fmt, fs, io};
 #[derive(Drop)]
 struct Stopped;
 
+// By hand: a derive would keep the fault, of which nothing is told where standard output itself fails.
 impl From<io::Error> for Stopped {
     fn from(_fault: io::Error) -> Stopped {
         Stopped

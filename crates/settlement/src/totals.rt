@@ -24,9 +24,10 @@ fn add_up<P: Programme, E: Called>(terms: Terms, events: &[E]) -> Totals
         let (credit, surcharge, miss) = P::event(terms, called.event().dispatch);
         credits += credit;
         surcharges += surcharge;
-        // 0 or 1; what `as` narrows here is proved to fit
+        // `as`: 0 or 1, which is proved; `u8::try_from(..).unwrap()` would ask for the same proof and say no more
         missed += miss as u8;
     }
+    // `as`, as above: at most 18
     let count = events.len() as u8;
     let basic = P::basic(terms, count, missed);
     Totals {

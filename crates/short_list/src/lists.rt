@@ -12,5 +12,5 @@ pub struct Short<T, const N: usize> {
     ghost held: { count ≤ length items },
 }
 
-// By hand, with `Clone`: the derive of a generic type is refused beside ghost fields, and would not promise an equal list.
+// By hand, with `Clone`: the derive of a generic type is refused beside ghost fields, and would not promise an equal list and no error.
 impl<T: Copy, const N: usize> Copy for Short<T, N> {}
