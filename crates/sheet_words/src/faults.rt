@@ -1,5 +1,9 @@
 // What may be wrong with a sheet.
 
+ghost use Rattle.std.specs.Prelude.{◌≡◌};
+ghost use Rattle.sheet_words.specs.declared.faults.LineFault.TheVariants.{Memory as no_memory};
+ghost use Rattle.sheet_words.specs.declared.faults.SheetFault.TheVariants.{Memory as out_of_memory};
+
 use crate::keys::Word;
 use decimals::Places;
 use refusal::Refusal;
@@ -48,20 +52,26 @@ pub enum SheetFault {
     Memory,
 }
 
-// By hand for each error type: a derive that writes them wants the allocator's error inside `Memory`.
+// By hand for each error type: a derive that writes them wants the allocator's error inside `Memory`, and promises nothing.
 impl From<AllocError> for LineFault {
+    ghost from_gives = { λ _ fault. fault ≡ no_memory };
+
     fn from(_e: AllocError) -> LineFault {
         LineFault::Memory
     }
 }
 
 impl From<AllocError> for SheetFault {
+    ghost from_gives = { λ _ fault. fault ≡ out_of_memory };
+
     fn from(_e: AllocError) -> SheetFault {
         SheetFault::Memory
     }
 }
 
 impl<T: Drop> From<AllocFailed<T>> for SheetFault {
+    ghost from_gives = { λ _ fault. fault ≡ out_of_memory };
+
     fn from(_e: AllocFailed<T>) -> SheetFault {
         SheetFault::Memory
     }
