@@ -3,3 +3,4 @@ pub mod Events
 pub mod Figures
 pub mod Headers
 pub mod Numbers
+pub mod Refusals

@@ -1,6 +1,14 @@
 // Reading the header.
+// The heap comes beside each word that is read, since a fault quotes the word; readers that answer a bare complaint would have it blamed
+// at each call.
 
-ghost use Rattle.std.specs.Prelude.{◌≡◌, [], ◌∷◌, IfOk, Some, None, MatchResult, OnOk};
+ghost use Rattle.std.specs.Prelude.{◌≡◌, ◌≢◌, ℕ, ◌≤◌, [], ◌∷◌, Some, None, MatchResult};
+ghost use Rattle.calendar.specs.Texts.{month_text};
+ghost use Rattle.programme.specs.declared.codes.Code.{Code as Named};
+ghost use Rattle.sheet_words.specs.Faults.{Blames};
+ghost use Rattle.sheet_words.specs.declared.faults.Complaint.TheVariants.{UnknownProgramme as UnknownLetter, NoMonth as NamesNoMonth};
+ghost use Rattle.sheet_words.specs.declared.faults.LineFault.TheVariants.{Twice as SaidTwice};
+ghost use Rattle.sheet_values.specs.Refusals.{NotedOn, Refuses};
 ghost use Rattle.programme.specs.Programmes.{letter_of};
 ghost use Rattle.sheet_values.specs.Drafts.{is_blank, Completes, Lacks, NamesMonth, Takes};
 
@@ -16,14 +24,14 @@ use std::alloc::Global;
 // The readers of single words are one line each, with the text of their own type in the clause: a generic one would be told
 // the type's reader, its complaint and its text at every call.
 fn read_code(heap: Global, text: &str) -> Result<Code, LineFault>
-    ensures { IfOk result (λ code. text.now ≡ letter_of code ∷ []) }
+    ensures { MatchResult result (λ code. text.now ≡ letter_of code ∷ []) (λ fault. ((code : Named) → text.now ≢ letter_of code ∷ []) × Blames text.now UnknownLetter fault) }
 {
     text.parse()
         .map_err(|_| blame(heap, text, Complaint::UnknownProgramme))
 }
 
 fn read_month(heap: Global, text: &str) -> Result<Month, LineFault>
-    ensures { IfOk result (λ month. NamesMonth text.now month) }
+    ensures { MatchResult result (λ month. NamesMonth text.now month) (λ fault. ((month : ℕ) → month ≤ 359 → text.now ≢ month_text month) × Blames text.now NamesNoMonth fault) }
 {
     Month::read(text.as_bytes()).ok_or_else(|| blame(heap, text, Complaint::NoMonth))
 }
@@ -35,7 +43,7 @@ fn note<T: Copy>(
     value: T,
     line: usize,
 ) -> Result<(), LineFault>
-    ensures { OnOk result ((slot.old ≡ None) × (slot.new ≡ Some (record { value = value; line = line }))) }
+    ensures { MatchResult result (λ _. (slot.old ≡ None) × (slot.new ≡ Some (record { value = value; line = line }))) (λ fault. (slot.new ≡ slot.old) × ((earlier : ℕ) × NotedOn slot.old earlier × (fault ≡ SaidTwice word earlier))) }
 {
     if let Some(noted) = slot {
         return Err(LineFault::Twice {
@@ -69,7 +77,7 @@ impl Draft {
         text: &str,
         line: usize,
     ) -> Result<(), LineFault>
-        ensures { OnOk result (Takes word text.now line self.old self.new) }
+        ensures { MatchResult result (λ _. Takes word text.now line self.old self.new) (λ fault. (self.new ≡ self.old) × Refuses word text.now self.old fault) }
     {
         match word {
             Word::Programme => note(&mut self.code, word, read_code(heap, text)?, line),
@@ -83,7 +91,8 @@ impl Draft {
                 line,
             ),
             Word::Hours => note(&mut self.hours, word, count(heap, text, u8::MAX)?, line),
-            // an event's word is none of the header's: nothing to take
+            // an event's word is none of the header's: nothing to take; any word may come, since a type of the header's six
+            // would be turned into a `Word` by each fault, and would ask more of the caller
             Word::Event => Ok(()),
         }
     }

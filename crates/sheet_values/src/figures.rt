@@ -1,7 +1,8 @@
-// Reading the figures of an event, and turning a demand in kW into the figure that a programme settles by.
+// Reading the figures of an event (the heap comes beside a word, as for the header's), and turning a demand in kW into the figure that a programme settles by.
 
-ghost use Rattle.std.specs.Prelude.{◌≡◌, IfOk};
+ghost use Rattle.std.specs.Prelude.{◌≡◌, MatchResult};
 ghost use Rattle.sheet_values.specs.Figures.{baseline_of, load_of, over, FigureText};
+ghost use Rattle.sheet_values.specs.Refusals.{NoFigure};
 
 use crate::measured::Figure;
 use crate::numbers::number;
@@ -13,11 +14,11 @@ use std::alloc::Global;
 impl Figure {
     // A demand is written in kW with that suffix, a figure itself as a whole number.
     pub fn read(heap: Global, text: &str) -> Result<Figure, LineFault>
-        ensures { IfOk result (λ figure. FigureText text.now figure) }
+        ensures { MatchResult result (FigureText text.now) (NoFigure text.now) }
     {
         match text.strip_suffix("kW") {
-            Some(kilowatts) => number(heap, kilowatts, Places::Three).map(Figure::Demand),
-            None => number(heap, text, Places::Zero).map(Figure::Total),
+            Some(kilowatts) => Ok(Figure::Demand(number(heap, kilowatts, Places::Three)?)),
+            None => Ok(Figure::Total(number(heap, text, Places::Zero)?)),
         }
     }
 

@@ -1,6 +1,7 @@
-// Numbers of a sheet, read from words and fitted into their types.
+// Numbers of a sheet, read from words and fitted into their types. The heap comes beside a word, as for the header's.
 
-ghost use Rattle.std.specs.Prelude.{ℕ, IfOk, MatchResult};
+ghost use Rattle.std.specs.Prelude.{ℕ, MatchResult};
+ghost use Rattle.decimals.specs.declared.kinds.Places.TheVariants.{Zero as Whole};
 ghost use Rattle.decimals.specs.Numerals.{Spells, places_of};
 ghost use Rattle.sheet_values.specs.Numbers.{Fits};
 ghost use Rattle.sheet_words.specs.Faults.{Blames, complaint_of, IsNoNumber};
@@ -45,7 +46,7 @@ pub(crate) fn count<T: TryFrom<u64> + Drop>(
 ) -> Result<T, LineFault>
 where
     T::Error: Drop,
-    ensures { IfOk result (λ value. (n : ℕ) × Spells 0 text.now n × Fits T.try_from_gives n largest value) }
+    ensures { MatchResult result (λ value. (n : ℕ) × Spells 0 text.now n × Fits T.try_from_gives n largest value) (IsNoNumber Whole text.now) }
 {
     Ok(fitted(number(heap, text, Places::Zero)?, largest))
 }
