@@ -1,8 +1,11 @@
 -- What the account shows besides the settlement's own amounts.
-use Rattle.std.specs.Prelude.{◌≡◌, ℕ, ◌+◌, ◌-◌, ◌/◌, ◌^◌, ◌<◌, min, List, ◌∷◌, Ok}
+use Rattle.std.specs.Prelude.{◌≡◌, ℕ, ◌+◌, ◌-◌, ◌/◌, ◌^◌, ◌<◌, ◌⊎◌, min, List, ◌∷◌, Ok, Err}
 use Rattle.decimals.specs.Written.{grouped}
 use Rattle.settlement.specs.declared.events.Totals.{Totals}
+use Rattle.sheet.specs.Reading.{Writes, WritesNone}
 use Rattle.sheet.specs.Settling.{Settled}
+use Rattle.sheet_words.specs.declared.faults.SheetFault.{SheetFault}
+use Rattle.sheet_words.specs.declared.faults.SheetFault.TheVariants.{Memory}
 use Rattle.sheet.specs.declared.sheets.Sheet.{Sheet}
 use Rattle.account_text.specs.declared.nets.Net.{Net}
 use Rattle.account_text.specs.declared.nets.Net.TheVariants.{Paid, Owed}
@@ -28,3 +31,11 @@ balance_text (Owed n) = 45 ∷ grouped n
 -- The sheet is settled with some totals, and not refused.
 abbrev pub SettlesSo : Sheet → Type 0
 SettlesSo s = (totals : Totals) × Settled s (Ok totals)
+
+-- A sheet has no account where settling refuses it, and the fault is that of settling; or there was no memory for the text.
+abbrev pub HasNoAccount : Sheet → SheetFault → Type 0
+HasNoAccount s fault = Settled s (Err fault) ⊎ (fault ≡ Memory)
+
+-- A text gives no account where it writes no sheet, or one that has none.
+abbrev pub GivesNoAccount : List ℕ → SheetFault → Type 0
+GivesNoAccount text fault = WritesNone text fault ⊎ ((s : Sheet) × Writes text s × HasNoAccount s fault)

@@ -1,9 +1,10 @@
 // The account, line by line.
 
-ghost use Rattle.std.specs.Prelude.{OnOk, Some};
+ghost use Rattle.std.specs.Prelude.{MatchResult, Some};
+ghost use Rattle.sheet.specs.Reading.{Writes};
 ghost use Rattle.sheet.specs.Sheets.{Sound};
 ghost use Rattle.sheet.specs.declared.sheets.Sheet.{Sheet as Read};
-ghost use Rattle.account_text.specs.Shown.{balance_text, SettlesSo};
+ghost use Rattle.account_text.specs.Shown.{balance_text, GivesNoAccount, HasNoAccount, SettlesSo};
 
 use crate::amounts::{mean_kw, net};
 use crate::nets::Net;
@@ -127,7 +128,7 @@ const COLUMNS: &str =
 
 // The whole account of a sheet, which is settled first.
 pub fn account_text(heap: Global, sheet: &Sheet) -> Result<String, SheetFault>
-    ensures { OnOk result (SettlesSo sheet.now) }
+    ensures { MatchResult result (λ _. SettlesSo sheet.now) (HasNoAccount sheet.now) }
 {
     let totals = sheet.settle()?;
     let agreement = sheet.header.agreement;
@@ -148,7 +149,7 @@ pub fn account_text(heap: Global, sheet: &Sheet) -> Result<String, SheetFault>
 
 // The account of a sheet's text.
 pub fn account(heap: Global, text: &[u8]) -> Result<String, SheetFault>
-    ensures { OnOk result ((sheet : Read) × Sound sheet × SettlesSo sheet) }
+    ensures { MatchResult result (λ _. (sheet : Read) × Writes text.now sheet × Sound sheet × SettlesSo sheet) (GivesNoAccount text.now) }
 {
     let sheet = Sheet::read(heap, text)?;
     account_text(heap, &sheet)

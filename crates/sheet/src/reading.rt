@@ -1,8 +1,9 @@
 // Reading a sheet line by line: the header first, then the events.
 
-ghost use Rattle.std.specs.Prelude.{◌≡◌, IfOk, vec_items};
+ghost use Rattle.std.specs.Prelude.{◌≡◌, IfOk, MatchResult, vec_items};
 ghost use Rattle.sheet_values.specs.Drafts.{Completes};
-ghost use Rattle.sheet.specs.Sheets.{Extends, Sound};
+ghost use Rattle.sheet.specs.Reading.{LacksHeader, LineAdds, LineFails, told_on, Writes, WritesNone};
+ghost use Rattle.sheet.specs.Sheets.{Sound};
 
 use crate::sheets::Sheet;
 use settlement::Event;
@@ -11,7 +12,9 @@ use sheet_words::{LineFault, SheetFault, Statement, parse};
 use std::alloc::Global;
 
 // A line's fault with its line, but for want of memory, which is none of the line's.
-fn on_line(line: usize, fault: LineFault) -> SheetFault {
+fn on_line(line: usize, fault: LineFault) -> SheetFault
+    ensures { result ≡ told_on line fault }
+{
     match fault {
         LineFault::Memory => SheetFault::Memory,
         fault => SheetFault::Line { line, fault },
@@ -27,7 +30,7 @@ fn read_line(
     number: usize,
     line: &str,
 ) -> Result<Option<Event>, LineFault>
-    ensures { IfOk result (λ event. Extends events.now draft.old draft.new event) }
+    ensures { MatchResult result (LineAdds number line.now events.now draft.old draft.new) (LineFails line.now events.now draft.old) }
 {
     match parse(heap, line)? {
         Statement::Blank => Ok(None),
@@ -45,7 +48,7 @@ fn read_line(
 
 // The sheet of the events that were read, under the header that was noted if that is complete.
 fn sheet_of(draft: &Draft, events: Vec<Noted<Event>>) -> Result<Sheet, SheetFault>
-    ensures { IfOk result (λ sheet. Completes draft.now sheet.header × (vec_items sheet.events ≡ vec_items events)) }
+    ensures { MatchResult result (λ sheet. Completes draft.now sheet.header × (vec_items sheet.events ≡ vec_items events)) (LacksHeader draft.now) }
 {
     let header = draft.complete().map_err(|word| if draft.is_empty() {
         SheetFault::Empty
@@ -57,7 +60,8 @@ fn sheet_of(draft: &Draft, events: Vec<Noted<Event>>) -> Result<Sheet, SheetFaul
 
 impl Sheet {
     pub fn read(heap: Global, text: &[u8]) -> Result<Sheet, SheetFault>
-        ensures { IfOk result Sound }
+        ensures sound { IfOk result Sound }
+        ensures means { MatchResult result (Writes text.entry.now) (WritesNone text.entry.now) }
     {
         let text = std::str::from_utf8(text).map_err(|fault| SheetFault::NotText {
             byte: fault.valid_up_to(),
