@@ -1,5 +1,5 @@
 -- What a header notes of its lines, and when it is complete.
-use Rattle.std.specs.Prelude.{◌≡◌, ℕ, min, Bool, not, ◌&&◌, List, [], ◌∷◌, is_some, Some, None, Option}
+use Rattle.std.specs.Prelude.{◌≡◌, ℕ, min, Bool, not, ◌&&◌, List, [], ◌∷◌, is_some, IsSome, Some, None, Option}
 use Rattle.calendar.specs.Texts.{month_text}
 use Rattle.calendar.specs.declared.months.Month.{Month as Calendar}
 use Rattle.programme.specs.Programmes.{letter_of}
@@ -38,14 +38,14 @@ Takes Hours text line d e =
     Fills (Counts 255 text) line d.hours (λ slot. e ≡ record { code = d.code; account = d.account; month = d.month; capacity = d.capacity; reduction = d.reduction; hours = slot })
 Takes Event text line d e = e ≡ d
 
--- The slot of a word is still empty.
+-- The slot of a word is still empty, and it is the first such word, in the order programme, account, month, capacity, reduction, hours.
 abbrev pub Lacks : Draft → Word → Type 0
 Lacks d Programme = d.code ≡ None
-Lacks d Account = d.account ≡ None
-Lacks d Month = d.month ≡ None
-Lacks d Capacity = d.capacity ≡ None
-Lacks d Reduction = d.reduction ≡ None
-Lacks d Hours = d.hours ≡ None
+Lacks d Account = IsSome d.code × (d.account ≡ None)
+Lacks d Month = IsSome d.code × IsSome d.account × (d.month ≡ None)
+Lacks d Capacity = IsSome d.code × IsSome d.account × IsSome d.month × (d.capacity ≡ None)
+Lacks d Reduction = IsSome d.code × IsSome d.account × IsSome d.month × IsSome d.capacity × (d.reduction ≡ None)
+Lacks d Hours = IsSome d.code × IsSome d.account × IsSome d.month × IsSome d.capacity × IsSome d.reduction × (d.hours ≡ None)
 Lacks d Event = ⊥
 
 -- Nothing is noted yet.

@@ -1,4 +1,4 @@
--- Why a statement of a line is not taken: each fault quotes a word, and says what it is not.
+-- Why a statement of a line is not taken: the fault quotes what gives no value, or names the earlier line.
 use Rattle.std.specs.Prelude.{◌≡◌, ◌≢◌, ℕ, ◌≤◌, ◌⊎◌, Bool, List, [], ◌∷◌, ◌++◌, codes, Some, Option}
 use Rattle.std.specs.Option.{option_map}
 use Rattle.calendar.specs.Months.{month_of}
@@ -55,7 +55,7 @@ NoFigure text fault =
 abbrev pub NoEvent : Header → List ℕ → List ℕ → List ℕ → List ℕ → List ℕ → List ℕ → LineFault → Type 0
 NoEvent h date start notice price baseline load fault =
     (((day : ℕ) → day ≤ 10957 → date ≢ date_text day) × Blames date NoDate fault)
-    ⊎ (((day : ℕ) × (date ≡ date_text day) × (month_of day ≢ h.month.number)) × Blames date OutsideMonth fault)
+    ⊎ (((day : ℕ) × (day ≤ 10957) × (date ≡ date_text day) × (month_of day ≢ h.month.number)) × Blames date OutsideMonth fault)
     ⊎ (((quarter : ℕ) → quarter ≤ 95 → start ≢ time_text quarter) × Blames start NoTime fault)
     ⊎ (((late : Bool) → notice ≢ notice_text late) × Blames notice NoNotice fault)
     ⊎ IsNoNumber Two price fault
