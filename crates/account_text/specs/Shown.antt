@@ -1,5 +1,7 @@
 -- What the account shows besides the settlement's own amounts.
-use Rattle.std.specs.Prelude.{◌≡◌, ℕ, ◌+◌, ◌-◌, ◌/◌, ◌^◌, ◌<◌, ◌⊎◌, min, List, ◌∷◌, Ok, Err}
+use Rattle.std.specs.Prelude.{◌≡◌, ℕ, ◌+◌, ◌-◌, ◌/◌, ◌^◌, ◌<◌, ◌⊎◌, min, List, ◌∷◌, codes, Ok, Err}
+use Rattle.programme.specs.declared.codes.Code.{Code}
+use Rattle.programme.specs.declared.codes.Code.TheVariants.{Economic, JointBidding, Reliable}
 use Rattle.decimals.specs.Written.{grouped}
 use Rattle.settlement.specs.declared.events.Totals.{Totals}
 use Rattle.sheet.specs.Reading.{Writes, WritesNone}
@@ -22,6 +24,12 @@ rounded a b = capped (a + b / 2) / b
 abbrev pub Balances : Totals → Net → Type 0
 Balances t (Paid n) = n + t.surcharges ≡ capped (t.basic + t.credits)
 Balances t (Owed n) = (0 < n) × (n + capped (t.basic + t.credits) ≡ t.surcharges)
+
+-- A programme by its name, with its letter.
+abbrev pub title_text : Code → List ℕ
+title_text Economic = codes "economic bidding (E)"
+title_text JointBidding = codes "joint bidding (J)"
+title_text Reliable = codes "reliable bidding (R)"
 
 -- What is owed has a minus before it; dollars have a comma before each three digits.
 abbrev pub balance_text : Net → List ℕ

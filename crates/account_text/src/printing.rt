@@ -4,7 +4,7 @@ ghost use Rattle.std.specs.Prelude.{MatchResult, Some};
 ghost use Rattle.sheet.specs.Reading.{Writes};
 ghost use Rattle.sheet.specs.Sheets.{Sound};
 ghost use Rattle.sheet.specs.declared.sheets.Sheet.{Sheet as Read};
-ghost use Rattle.account_text.specs.Shown.{balance_text, GivesNoAccount, HasNoAccount, SettlesSo};
+ghost use Rattle.account_text.specs.Shown.{balance_text, title_text, GivesNoAccount, HasNoAccount, SettlesSo};
 
 use crate::amounts::{mean_kw, net};
 use crate::nets::Net;
@@ -22,6 +22,8 @@ use std::fmt;
 struct Title(Code);
 
 impl fmt::Display for Title {
+    ghost output = { λ title. Some (title_text title.0) };
+
     fn fmt<W: fmt::Write>(&self, f: &mut fmt::Formatter<W>) -> fmt::Result {
         let name = match self.0 {
             Code::Economic => "economic bidding",

@@ -7,11 +7,13 @@ use Rattle.calendar.specs.Months.{month_of}
 use Rattle.std.specs.Iterator.{AlwaysYields}
 use Rattle.std.specs.Str.Iter.{lines_rest, lines_steps}
 use Rattle.std.specs.Str.Lines.{lines}
-use Rattle.std.specs.Str.{EmptyOrStartsWithPassing}
+use Rattle.std.specs.Str.{EmptyOrStartsWithPassing, IsUtf8}
 use Rattle.std.specs.Char.{encode_utf8, is_newline}
 use Rattle.std.proofs.Common.{append_assoc, append-nil, length-append, length-drop}
 use Rattle.std.proofs.lemmas.Str.{len_utf8_bounds, length-encode}
-use Rattle.std.proofs.lemmas.Bool.{cases_order}
+use Rattle.std.proofs.Common.{true, false, Ok, Err, Result, is_ok}
+use Rattle.std.specs.Result.{MatchResult}
+use Rattle.std.proofs.lemmas.Bool.{both_ways, cases_order}
 use Rattle.std.specs.declared.str.Lines.{Lines}
 use Rattle.std.proofs.lemmas.Iterator.Splits.{YieldsList-from_lines}
 use Rattle.settlement.specs.declared.events.Event.{Event}
@@ -27,6 +29,11 @@ use Rattle.sheet.specs.Reading.{Adds, blank, Fails, LineFails, told_on, WritesNo
 use Rattle.sheet.specs.Sheets.{FallsIn, Rising, Sound}
 use Rattle.sheet_values.specs.Drafts.{Completes}
 use Rattle.sheet.specs.declared.sheets.Sheet.{Sheet}
+
+-- a text that was read is UTF-8
+pub utf8_of : {E : Type 0} (text : List ℕ) (r : Result (Bor (List ℕ)) E) (Q : E → Type 0) → is_ok r ≡ true → MatchResult r (λ s. (s.now ≡ text) × IsUtf8 text) Q → IsUtf8 text
+utf8_of text (Ok s) Q o m = m.1
+utf8_of text (Err e) Q o m = absurd (both_ways false refl o)
 
 -- an event's day is one of the month that is noted
 abbrev pub DatedIn : Draft → Event → Type 0
@@ -171,11 +178,12 @@ module _ {text : List ℕ} {it : Lines} {n : ℕ} {d : Draft} {events : List (No
       (goes x j e event step (subst (λ i. LineAdds i x.now events d e event) number (subst (λ es. LineAdds k x.now es d e event) same adds))))
 
   -- the next line fails
-  pub fails : (x : Bor (List ℕ)) (j : Lines) (k : ℕ) (seen : List (Noted Event)) (why : LineFault) (fault : SheetFault) → lines_steps it (Some x) j → k ≡ n → seen ≡ events → LineFails x.now seen d why → fault ≡ told_on k why →
+  pub fails : IsUtf8 text → (x : Bor (List ℕ)) (j : Lines) (k : ℕ) (seen : List (Noted Event)) (why : LineFault) (fault : SheetFault) → lines_steps it (Some x) j → k ≡ n → seen ≡ events → LineFails x.now seen d why → fault ≡ told_on k why →
       WritesNone text fault
-  fails x j k seen why fault step number same bad told =
+  fails utf8 x j k seen why fault step number same bad told =
       let more = next x j step in
       inr (inr (inl (
+        utf8,
         so.before,
         x.now,
         why,

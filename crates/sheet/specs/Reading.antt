@@ -50,9 +50,9 @@ Reads n (line ∷ rest) d events e all =
 abbrev pub blank : Draft
 blank = record { code = None; account = None; month = None; capacity = None; reduction = None; hours = None }
 
--- A text writes a sheet: its lines say the header's words and the events, each with its line.
+-- A text writes a sheet: it is UTF-8, and its lines say the header's words and the events, each with its line.
 abbrev pub Writes : List ℕ → Sheet → Type 0
-Writes text sheet = (d : Draft) × Reads 1 (lines text) blank [] d (vec_items sheet.events) × Completes d sheet.header
+Writes text sheet = IsUtf8 text × (d : Draft) × Reads 1 (lines text) blank [] d (vec_items sheet.events) × Completes d sheet.header
 
 -- Why a statement adds nothing, after the events of the lines before it: a word of the header is refused, or comes after an event;
 -- an event comes before a word that the header still lacks, or its words describe none.
@@ -88,7 +88,7 @@ LacksHeader d (NotText byte) = ⊥
 LacksHeader d (Line n fault) = ⊥
 LacksHeader d Memory = ⊥
 
--- Lines before one that fails, which add up to so much.
+-- A line of the text fails, after the header and the events that the lines before it add up to.
 pub record FailsAfter (text : List ℕ) (before : List (List ℕ)) (line : List ℕ) (why : LineFault) : Type 0 where
   pub after : List (List ℕ)
   pub is : lines text ≡ before ++ (line ∷ after)
@@ -97,11 +97,11 @@ pub record FailsAfter (text : List ℕ) (before : List (List ℕ)) (line : List 
   pub reads : Reads 1 before blank [] draft events
   pub fails : LineFails line events draft why
 
--- Why a text writes no sheet: from some byte on it is no text; or its lines give no header, or not the whole of it;
+-- Why a text writes no sheet: from some byte on it is no UTF-8; or it is, and its lines give no header, or not the whole of it,
 -- or a line fails, after lines that do not; or there was no memory.
 abbrev pub WritesNone : List ℕ → SheetFault → Type 0
 WritesNone text fault =
     ((byte : ℕ) × ¬ (IsUtf8 text) × IsValidUpTo text byte × (fault ≡ NotText byte))
-    ⊎ ((d : Draft) × (events : List (Noted Event)) × Reads 1 (lines text) blank [] d events × LacksHeader d fault)
-    ⊎ ((before : List (List ℕ)) × (line : List ℕ) × (why : LineFault) × FailsAfter text before line why × (fault ≡ told_on (1 + length before) why))
+    ⊎ (IsUtf8 text × (d : Draft) × (events : List (Noted Event)) × Reads 1 (lines text) blank [] d events × LacksHeader d fault)
+    ⊎ (IsUtf8 text × (before : List (List ℕ)) × (line : List ℕ) × (why : LineFault) × FailsAfter text before line why × (fault ≡ told_on (1 + length before) why))
     ⊎ (fault ≡ Memory)

@@ -14,7 +14,7 @@ FallsIn h e = month_of e.day.number ≡ h.month.number
 abbrev pub Rising : List (Noted Event) → Type 0
 Rising events = AllPairs (λ x y. x.line < y.line) events
 
--- Every event has its line, the lines rise, and every event falls in the sheet's month.
+-- The lines of the events rise, and every event falls in the sheet's month.
 pub record Sound (s : Sheet) : Type 0 where
   pub rising : Rising (vec_items s.events)
   pub in_month : All (λ noted. FallsIn s.header noted.value) (vec_items s.events)
