@@ -25,7 +25,7 @@ struct Case {
 }
 
 // The header has six lines, so the first event stands on line 7.
-const CASES: [Case; 30] = [
+const CASES: [Case; 37] = [
     Case {
         header: ECONOMIC,
         events: "event 2026-07-06 13:00 early 6.00 700kW 300kW",
@@ -179,6 +179,42 @@ const CASES: [Case; 30] = [
         header: ECONOMIC,
         events: "event 2026-07-04 13:00 early 6.00 0 0\nevent 2026-07-06 13:00 early six 0 0",
         says: "line 8: six is no number",
+    },
+    // of several words that cannot be read, the first
+    Case {
+        header: ECONOMIC,
+        events: "event 2026-02-30 13:10 soon six x y",
+        says: "line 7: 2026-02-30 is no date (like 2026-02-05, from 2015-01-01 to 2044-12-31)",
+    },
+    Case {
+        header: ECONOMIC,
+        events: "event 2026-08-03 13:10 soon six x y",
+        says: "line 7: 2026-08-03 lies outside the sheet's month",
+    },
+    Case {
+        header: ECONOMIC,
+        events: "event 2026-07-06 13:10 soon six x y",
+        says: "line 7: 13:10 is no quarter of an hour (like 13:15)",
+    },
+    Case {
+        header: ECONOMIC,
+        events: "event 2026-07-06 13:00 soon six x y",
+        says: "line 7: soon is neither early nor late",
+    },
+    Case {
+        header: ECONOMIC,
+        events: "event 2026-07-06 13:00 early six x y",
+        says: "line 7: six is no number",
+    },
+    Case {
+        header: ECONOMIC,
+        events: "event 2026-07-06 13:00 early 6.00 x y",
+        says: "line 7: x is no number",
+    },
+    Case {
+        header: ECONOMIC,
+        events: "event 2026-07-06 13:00 early 6.00 0 y",
+        says: "line 7: y is no number",
     },
 ];
 

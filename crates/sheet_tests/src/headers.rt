@@ -184,6 +184,56 @@ fn agreements_are_checked(rt: HostRuntime) -> Result<(), Fail> {
     judges(rt.alloc(), &AGREEMENTS)
 }
 
+// Of several faults of one line the first that is read is told: the count of the words, then the text, then an earlier line;
+// and of several words that a header lacks the first, in the order programme, account, month, capacity, reduction, hours.
+const SEVERAL: [Case; 10] = [
+    Case {
+        text: "hours 4\nhours x\n",
+        says: "line 2: x is no number",
+    },
+    Case {
+        text: "programme E\nprogramme X\n",
+        says: "line 2: X is no programme (E for economic, J for joint, R for reliable bidding)",
+    },
+    Case {
+        text: "hours 4\nhours 4 4\n",
+        says: "line 2: \"hours\" takes one number; 2 given",
+    },
+    Case {
+        text: "event 2026-02-30\n",
+        says: "line 1: \"event\" takes DATE START early|late PRICE BASELINE LOAD; 1 given",
+    },
+    Case {
+        text: "month 2026-07\n",
+        says: "the sheet has no line \"programme\"",
+    },
+    Case {
+        text: "programme E\nhours 4\n",
+        says: "the sheet has no line \"account\"",
+    },
+    Case {
+        text: "programme E\naccount 1\nhours 4\n",
+        says: "the sheet has no line \"month\"",
+    },
+    Case {
+        text: "programme E\naccount 1\nmonth 2026-07\nhours 4\n",
+        says: "the sheet has no line \"capacity\"",
+    },
+    Case {
+        text: "programme E\naccount 1\nmonth 2026-07\ncapacity 500\nhours 4\n",
+        says: "the sheet has no line \"reduction\"",
+    },
+    Case {
+        text: "month 2026-07\nevent 2026-02-30 13:10 soon six x y\n",
+        says: "line 2: an event before the line \"programme\"",
+    },
+];
+
+#[test]
+fn the_first_of_several_faults_is_told(rt: HostRuntime) -> Result<(), Fail> {
+    judges(rt.alloc(), &SEVERAL)
+}
+
 // Bytes that are no text, or no words.
 #[test]
 fn random_bytes_are_refused(rt: HostRuntime) -> Result<(), Fail> {
