@@ -1,5 +1,5 @@
 -- What an agreement and an event that pass their checks are known to keep.
-use Rattle.std.proofs.Common.{◌≡◌, ℕ, ◌+◌, ◌*◌, ◌<◌, ◌≤◌, true, All, List, length, get_or, map, take, Result, Ok, Err, Some, MatchResult, sym, ap, ◌∙◌, mul-le-mul_right, rules, arith, lit≤}
+use Rattle.std.proofs.Common.{◌≡◌, ℕ, ◌+◌, ◌*◌, ◌<◌, ◌≤◌, true, All, List, [], ◌∷◌, length, get_or, map, take, Result, Ok, Err, Some, MatchResult, sym, refl, ap, ◌∙◌, mul-le-mul_right, add-one, rules, arith, lit≤, length-take}
 use Rattle.std.specs.Result.{is_ok}
 use Rattle.std.proofs.lemmas.Bool.{false≢true}
 use Rattle.std.proofs.lemmas.Bool.Decides.{nat_tests}
@@ -36,6 +36,17 @@ pub few : (a : Agreement) (earlier : List Event) (e : Event) → agreement_test 
 few a earlier e h p =
     let hours = mul-le-mul_right (length earlier + 1) (hours_low a h) in
     omega (arith, in_cap (meaning_of a.code).figures a.terms earlier e p, cap_most a.code)
+
+-- so a month whose events all pass has at most 18 of them
+pub month_few : (a : Agreement) (es : List Event) → Passed a es (length es) → length es ≤ 18
+month_few a es passed = by es refl
+  where
+    by : (xs : List Event) → es ≡ xs → length es ≤ 18
+    by [] w = rw w (lit≤ tt)
+    by (x ∷ xs) w =
+        let count : length es ≡ length xs + 1 = ap length w ∙ sym (add-one (length xs)) in
+        let last = few a (take (length xs) es) (get_or es (length xs) x) passed.0 (passed.1 (length xs) (omega arith) x) in
+        omega (arith, count, length-take (length xs) es)
 
 -- a call that was accepted met no test
 accepted : {T : Type 0} (r : Result T Refusal) (n : ℕ) → is_ok r ≡ true → told r ≡ plain n → n ≡ 0

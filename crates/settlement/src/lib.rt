@@ -9,4 +9,4 @@ mod totals;
 
 pub use called::Called;
 pub use events::{Agreement, Event, Refused, Totals};
-pub use totals::{settle_month, worked_amounts, worked_figures};
+pub use totals::{settle_called, settle_month, worked_amounts, worked_figures};

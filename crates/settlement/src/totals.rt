@@ -6,7 +6,7 @@ ghost use Rattle.settlement.specs.Month.{Settles, totals};
 ghost use Rattle.settlement.specs.Worked.{WorkedFigures};
 
 use crate::called::Called;
-use crate::events::{Agreement, Refused, Totals};
+use crate::events::{Agreement, Event, Refused, Totals};
 use programme::{Code, Dispatch, Economic, JointBidding, Programme, Reliable, Terms};
 
 // The amounts of a month's events, which are few and can all be settled. Lawful terms are a premise here, as of the month function:
@@ -39,8 +39,8 @@ fn add_up<P: Programme, E: Called>(terms: Terms, events: &[E]) -> Totals
     }
 }
 
-// What the month comes to; or which event is refused first, and why.
-pub fn settle_month<E: Called>(agreement: Agreement, events: &[E]) -> Result<Totals, Refused>
+// What the month of whatever has an event comes to; or which event is refused first, and why.
+pub fn settle_called<E: Called>(agreement: Agreement, events: &[E]) -> Result<Totals, Refused>
     ensures { Settles agreement (map E.event events.now) result }
 {
     agreement.check().map_err(|refusal| Refused {
@@ -55,6 +55,13 @@ pub fn settle_month<E: Called>(agreement: Agreement, events: &[E]) -> Result<Tot
         Code::JointBidding => add_up::<JointBidding, E>(terms, events),
         Code::Reliable => add_up::<Reliable, E>(terms, events),
     })
+}
+
+// The same of events alone, whose type no caller has to name, also where there are none.
+pub fn settle_month(agreement: Agreement, events: &[Event]) -> Result<Totals, Refused>
+    ensures { Settles agreement events.now result }
+{
+    settle_called(agreement, events)
 }
 
 // The worked examples, as a theorem of the definitions.

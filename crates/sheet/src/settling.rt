@@ -4,7 +4,7 @@ ghost use Rattle.std.specs.Prelude.{◌≡◌};
 ghost use Rattle.sheet.specs.Settling.{line_at, Settled};
 
 use crate::sheets::Sheet;
-use settlement::{Totals, settle_month};
+use settlement::{Totals, settle_called};
 use sheet_words::{LineFault, SheetFault};
 
 impl Sheet {
@@ -21,7 +21,7 @@ impl Sheet {
     pub fn settle(&self) -> Result<Totals, SheetFault>
         ensures { Settled self.now result }
     {
-        settle_month(self.header.agreement, self.events.as_slice()).map_err(|refused| {
+        settle_called(self.header.agreement, self.events.as_slice()).map_err(|refused| {
             SheetFault::Line {
                 line: self.line_of(refused.event).unwrap(),
                 fault: LineFault::Refused(refused.refusal),

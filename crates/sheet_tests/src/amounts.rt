@@ -1,7 +1,7 @@
 // Amounts of worked examples.
 
 use crate::events::{ECONOMIC, RELIABLE};
-use settlement::Totals;
+use settlement::{Totals, settle_month};
 use sheet::Sheet;
 use std::alloc::Global;
 use std::test::Fail;
@@ -112,6 +112,23 @@ fn reliable_months_pay(rt: HostRuntime) -> Result<(), Fail> {
             credits: 52_800,
             surcharges: 3120,
         }
+    );
+    Ok(())
+}
+
+// A month without events, whose list names no type: nothing is due under economic bidding.
+#[test]
+fn a_month_without_events(rt: HostRuntime) -> Result<(), Fail> {
+    let sheet = Sheet::read(rt.alloc(), ECONOMIC.as_bytes()).map_err(Fail::new)?;
+    assert_eq!(rt;
+        settle_month(sheet.header.agreement, &[]),
+        Ok(Totals {
+            events: 0,
+            missed: 0,
+            basic: 0,
+            credits: 0,
+            surcharges: 0,
+        })
     );
     Ok(())
 }
