@@ -1,7 +1,7 @@
 // Amounts that the account shows.
 
 ghost use Rattle.std.specs.Prelude.{◌≡◌};
-ghost use Rattle.decimals.specs.declared.kinds.Places.TheVariants.{Three};
+ghost use Rattle.decimals.specs.declared.kinds.Places.TheVariants.{Three, Two};
 ghost use Rattle.account_text.specs.Shown.{Balances, rounded};
 
 use crate::nets::Net;
@@ -23,6 +23,16 @@ pub(crate) fn mean_kw(watts: u64, parts: u64) -> Fixed
     Fixed {
         value: rounded(watts, parts),
         places: Places::Three,
+    }
+}
+
+// A price in hundredths of a dollar, in dollars with two decimals.
+pub(crate) fn price(hundredths: u16) -> Fixed
+    ensures { result ≡ record { value = hundredths; places = Two } }
+{
+    Fixed {
+        value: u64::from(hundredths),
+        places: Places::Two,
     }
 }
 

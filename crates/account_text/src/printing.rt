@@ -6,9 +6,9 @@ ghost use Rattle.sheet.specs.Sheets.{Sound};
 ghost use Rattle.sheet.specs.declared.sheets.Sheet.{Sheet as Read};
 ghost use Rattle.account_text.specs.Shown.{balance_text, title_text, GivesNoAccount, HasNoAccount, SettlesSo};
 
-use crate::amounts::{mean_kw, net};
+use crate::amounts::{mean_kw, net, price};
 use crate::nets::Net;
-use decimals::{Fixed, Grouped, Places};
+use decimals::Grouped;
 use programme::{Code, Dispatch, below_lowest, rate};
 use settlement::{Agreement, Event, Totals};
 use sheet::Sheet;
@@ -100,11 +100,7 @@ fn event_line(
     let load = kilowatts(dispatch.event_load, 1)?;
     let reduction = kilowatts(dispatch.saving(), 5)?;
     let notice = if dispatch.late { "late" } else { "early" };
-    let price = Fixed {
-        value: u64::from(dispatch.price),
-        places: Places::Two,
-    };
-    let price = price.to_string(heap)?;
+    let price = price(dispatch.price).to_string(heap)?;
     let outcome = outcome(heap, agreement, dispatch, missed != 0)?;
     let credit = Grouped(credit).to_string(heap)?;
     let surcharge = Grouped(surcharge).to_string(heap)?;
