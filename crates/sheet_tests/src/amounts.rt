@@ -116,10 +116,12 @@ fn reliable_months_pay(rt: HostRuntime) -> Result<(), Fail> {
     Ok(())
 }
 
-// A month without events, whose list names no type: nothing is due under economic bidding.
+// A month without events, whose list names no type: nothing is due under economic bidding, and no event has a line.
 #[test]
 fn a_month_without_events(rt: HostRuntime) -> Result<(), Fail> {
     let sheet = Sheet::read(rt.alloc(), ECONOMIC.as_bytes()).map_err(Fail::new)?;
+    assert_eq!(rt; sheet.line_of(Some(0)), 0);
+    assert_eq!(rt; sheet.noted_line(Some(0)), None);
     assert_eq!(rt;
         settle_month(sheet.header.agreement, &[]),
         Ok(Totals {
